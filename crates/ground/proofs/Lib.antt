@@ -1,0 +1,13 @@
+-- The laws of the definitions in specs/, each once, for the proofs of every later crate.
+pub mod Tests
+pub mod Picks
+pub mod Answers
+pub mod Puts
+pub mod Scripts
+pub mod Products
+pub mod Tables
+pub mod Diffs
+pub mod Signs
+pub mod Bits
+pub mod Windows
+pub mod Orders

@@ -1,0 +1,30 @@
+-- A choice whose test is known, and two tests that mean the same.
+-- Assumes nothing.
+use mathlib.Core.Path.{_≡_, refl, sym, ap}
+use mathlib.Core.Bool.{Bool, true, false, _&&_, _||_}
+use Rattle.ground.specs.Pick.{pick}
+
+pub pick-true : {A : Type 0} {t : Bool} {a : A} (b : A) → t ≡ true → pick t a b ≡ a
+pick-true {A} {t} {a} b e = ap (λ (u : Bool). pick u a b) e
+
+pub pick-false : {A : Type 0} {t : Bool} (a : A) {b : A} → t ≡ false → pick t a b ≡ b
+pick-false {A} {t} a {b} e = ap (λ (u : Bool). pick u a b) e
+
+-- tests joined, from the first that decides
+pub and-on : {s t : Bool} → s ≡ true → (s && t) ≡ t
+and-on {s} {t} e = ap (λ (u : Bool). u && t) e
+
+pub and-off : {s : Bool} (t : Bool) → s ≡ false → (s && t) ≡ false
+and-off {s} t e = ap (λ (u : Bool). u && t) e
+
+pub or-on : {s : Bool} (t : Bool) → s ≡ true → (s || t) ≡ true
+or-on {s} t e = ap (λ (u : Bool). u || t) e
+
+pub or-off : {s t : Bool} → s ≡ false → (s || t) ≡ t
+or-off {s} {t} e = ap (λ (u : Bool). u || t) e
+
+-- two tests are equal where each gives the other
+pub agree : (s t : Bool) → (s ≡ true → t ≡ true) → (t ≡ true → s ≡ true) → s ≡ t
+agree true t f g = sym (f refl)
+agree false true f g = g refl
+agree false false f g = refl

@@ -1,0 +1,8 @@
+-- What every later crate's contracts are written with.
+pub mod Pick
+pub mod Answer
+pub mod Put
+pub mod Script
+pub mod Sign
+pub mod Twos
+pub mod Window

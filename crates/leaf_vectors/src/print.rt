@@ -1,0 +1,27 @@
+// Lines of decimal numbers.
+use ground::sign::magnitude;
+use ground::sign::negative;
+use libc::STDOUT_FILENO;
+
+// The kind, at the start of a line.
+pub fn kind(n: u8) {
+    io::print_decimal(STDOUT_FILENO, n as u64);
+}
+
+// A number behind those before it.
+pub fn number(n: u64) {
+    io::write_all(STDOUT_FILENO, b" ");
+    io::print_decimal(STDOUT_FILENO, n);
+}
+
+pub fn signed(c: i16) {
+    io::write_all(STDOUT_FILENO, b" ");
+    if negative(c) {
+        io::write_all(STDOUT_FILENO, b"-");
+    }
+    io::print_decimal(STDOUT_FILENO, magnitude(c) as u64);
+}
+
+pub fn end() {
+    io::write_all(STDOUT_FILENO, b"\n");
+}

@@ -1,0 +1,5 @@
+-- The laws of the vector operations that callers cite.
+pub mod Vectors
+pub mod Projections
+pub mod Precisions
+pub mod Hints

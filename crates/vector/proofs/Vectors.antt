@@ -1,0 +1,68 @@
+-- Vectors by component: when two are equal, ranges, and the bytes read again.
+-- Assumes nothing.
+use mathlib.Core.Path.{_≡_, refl, ap, ap₂, _∙_}
+use mathlib.Core.Logic.{_↔_, _⊎_, ⊎-elim}
+use mathlib.Core.Bool.{true, and-eq-true-iff}
+use mathlib.Core.List.{List}
+use Prim.Native.Nat.{ℕ, _+_, _^_, _≤_, _<_}
+use native.Mathlib.Omega.{arith}
+use lib.Dec.{leb}
+use lib.IntN.{ℤ, natAbs}
+use borrow.Author.Tests.{le-leb, leb-true}
+use lib.ListN.{length}
+use lib.Signed.{mag}
+use Rattle.ground.specs.Put.{put}
+use Rattle.ground.specs.Sign.{eqZ}
+use Rattle.ground.specs.Twos.{halfOf}
+use Rattle.ground.proofs.Puts.{put-append, put-length}
+use Rattle.ground.proofs.Bits.{eqZ-is, half-outside, half-back}
+use Rattle.vector.specs.Vector.{Within, within, eqMv, both, mvAt, mvBytes}
+use Rattle.vector.specs.declared.mv.Mv.{Mv}
+
+-- a vector whose components are
+pub vector : {y x a b : ℤ} → y ≡ a → x ≡ b → _≡_ {A = Mv} (record { y = y; x = x }) (record { y = a; x = b })
+vector e e' = ap₂ (λ y x. record { y = y; x = x }) e e'
+
+-- a law of a component is one of both
+pub at-both : {f g : ℤ → ℤ} → ((z : ℤ) → f z ≡ g z) → (v : Mv) → both f v ≡ both g v
+at-both e v = vector (e (v .y)) (e (v .x))
+
+-- the test of equality passes exactly where two vectors are one
+pub eqMv-is : (u v : Mv) → u ≡ v ↔ eqMv u v ≡ true
+unfolding eqMv
+eqMv-is u v = (
+  λ e. ap (λ (w : Mv). eqMv w v) e ∙ and-eq-true-iff (eqZ (v .y) (v .y)) (eqZ (v .x) (v .x)) .1 (eqZ-is (v .y) (v .y) .0 refl, eqZ-is (v .x) (v .x) .0 refl),
+  λ t.
+      let h = and-eq-true-iff (eqZ (u .y) (v .y)) (eqZ (u .x) (v .x)) .0 t in
+      vector (eqZ-is (u .y) (v .y) .1 (h .0)) (eqZ-is (u .x) (v .x) .1 (h .1)),
+)
+
+-- the test of a range, and the range
+pub within-is : (m : ℕ) (v : Mv) → Within m v ↔ within m v ≡ true
+unfolding within
+within-is m v = (
+  λ w. and-eq-true-iff (leb (natAbs (v .y)) m) (leb (natAbs (v .x)) m) .1 (le-leb _ _ (w .y), le-leb _ _ (w .x)),
+  λ t.
+      let h = and-eq-true-iff (leb (natAbs (v .y)) m) (leb (natAbs (v .x)) m) .0 t in
+      record { y = leb-true (natAbs (v .y)) m (h .0); x = leb-true (natAbs (v .x)) m (h .1) },
+)
+
+-- bytes laid elsewhere leave a vector
+pub mv-outside : (l : List ℕ) (j : ℕ) (bs : List ℕ) (i : ℕ) → (i + 4 ≤ j) ⊎ (j + length bs ≤ i) → mvAt (put l j bs) i ≡ mvAt l i
+mv-outside l j bs i h =
+    vector (half-outside l j bs i (⊎-elim (λ p. _⊎_.inl (omega arith)) (λ p. _⊎_.inr (omega arith)) h))
+    (half-outside l j bs (i + 2) (⊎-elim (λ p. _⊎_.inl (omega arith)) (λ p. _⊎_.inr (omega arith)) h))
+
+-- both components are numbers of 16 bits, as those of every `Mv` in code are
+pub record Fits (v : Mv) : Type 0 where
+  pub y : mag (v .y) < 2 ^ 15
+  pub x : mag (v .x) < 2 ^ 15
+
+-- a vector that was laid down, and read again
+pub mv-back : (l : List ℕ) (i : ℕ) (v : Mv) → i + 4 ≤ length l → Fits v → mvAt (put l i (mvBytes v)) i ≡ v
+mv-back l i v h f =
+    let m = put l i (halfOf (v .y)) in
+    let n : length m ≡ length l = put-length l i (halfOf (v .y)) in
+    rw (put-append l i (halfOf (v .y)) (halfOf (v .x)))
+    (vector (half-outside m (i + 2) (halfOf (v .x)) i (_⊎_.inl (omega arith)) ∙ half-back l i (v .y) (omega arith) (f .y))
+    (half-back m (i + 2) (v .x) (omega arith) (f .x)))

@@ -1,0 +1,37 @@
+-- The motion vector: its fixed values, operations by component, and its four bytes (document 01, "Bytes that are lent").
+use Prim.Native.Nat.{ℕ, _+_, _≤_}
+use mathlib.Core.Bool.{Bool, _&&_}
+use mathlib.Core.List.{List, _++_}
+use lib.Dec.{leb}
+use lib.IntN.{ℤ, negsuc, natAbs}
+use Rattle.ground.specs.Sign.{eqZ}
+use Rattle.ground.specs.Twos.{halfAt, halfOf}
+use Rattle.vector.specs.declared.mv.Mv.{Mv}
+
+-- both components -32,768: `negsuc n` is -1 - n
+abbrev pub invalid : Mv
+invalid = record { y = negsuc 32767; x = negsuc 32767 }
+
+-- whether two vectors are equal, in both components
+unfoldable pub eqMv : Mv → Mv → Bool
+eqMv u v = eqZ (u .y) (v .y) && eqZ (u .x) (v .x)
+
+-- both components' magnitudes are at most m
+pub record Within (m : ℕ) (v : Mv) : Type 0 where
+  pub y : natAbs (v .y) ≤ m
+  pub x : natAbs (v .x) ≤ m
+
+-- the same as a test
+unfoldable pub within : ℕ → Mv → Bool
+within m v = leb (natAbs (v .y)) m && leb (natAbs (v .x)) m
+
+-- a function of a component, on both
+abbrev pub both : (ℤ → ℤ) → Mv → Mv
+both f v = record { y = f (v .y); x = f (v .x) }
+
+-- the vector in the four bytes from i on, y first; and the bytes that hold it
+abbrev pub mvAt : List ℕ → ℕ → Mv
+mvAt l i = record { y = halfAt l i; x = halfAt l (i + 2) }
+
+abbrev pub mvBytes : Mv → List ℕ
+mvBytes v = halfOf (v .y) ++ halfOf (v .x)

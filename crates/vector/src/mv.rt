@@ -1,0 +1,77 @@
+// The motion vector, and its four bytes.
+use ground::sign::magnitude;
+use ground::twos::read_half;
+use ground::twos::write_half;
+ghost use mathlib.Core.Path.{_≡_};
+ghost use Prim.Native.Nat.{_+_, _≤_};
+ghost use lib.ListN.{length};
+ghost use lib.IntN.{negℤ};
+ghost use Rattle.ground.specs.Put.{put};
+ghost use Rattle.vector.specs.Vector.{Within, within, invalid, eqMv, both, mvAt, mvBytes};
+
+// In eighths of a sample, down and to the right.
+pub struct Mv {
+    pub y: i16,
+    pub x: i16,
+}
+
+impl Mv {
+    pub const ZERO: Mv = Mv { y: 0, x: 0 };
+
+    // No vector at all: the mark of a projected cell, and of an intra block, that has no motion.
+    pub const INVALID: Mv = Mv {
+        y: -32768,
+        x: -32768,
+    };
+
+    pub fn is(self, o: Mv) -> bool
+        ensures { λ r. ⌜ r ≡ eqMv self o ⌝ }
+    {
+        if self.y == o.y { self.x == o.x } else { false }
+    }
+
+    // Both components have to be -32,768: either alone is an ordinary number.
+    pub fn is_invalid(self) -> bool
+        ensures { λ r. ⌜ r ≡ eqMv self invalid ⌝ }
+    {
+        self.is(Mv::INVALID)
+    }
+
+    // Both components lie in -most..=most.
+    pub fn within(self, most: u32) -> bool
+        ensures { λ r. ⌜ r ≡ within most self ⌝ }
+    {
+        if magnitude(self.y) <= most {
+            magnitude(self.x) <= most
+        } else {
+            false
+        }
+    }
+
+    pub fn negated(self) -> Mv
+        requires { ⌜ Within 32767 self ⌝ }
+        ensures { λ r. ⌜ r ≡ both negℤ self ⌝ }
+    {
+        Mv {
+            y: -self.y,
+            x: -self.x,
+        }
+    }
+
+    pub fn read(s: &[u8], at: usize) -> Mv
+        requires { ⌜ at + 4 ≤ length (now s) ⌝ }
+        ensures { λ r. ⌜ r ≡ mvAt (now (s .entry)) at ⌝ }
+    {
+        let y = read_half(s, at);
+        let x = read_half(s, at + 2);
+        Mv { y, x }
+    }
+
+    pub fn write(self, s: &mut [u8], at: usize)
+        requires { ⌜ at + 4 ≤ length (now s) ⌝ }
+        ensures { λ _. ⌜ now (s .exit) ≡ put (now (s .entry)) at (mvBytes self) ⌝ }
+    {
+        write_half(s, at, self.y);
+        write_half(s, at + 2, self.x);
+    }
+}

@@ -1,0 +1,51 @@
+//! The supplied Rust, compiled unchanged, as the judge of the port.
+//!
+//! The public functions take and give numbers and bytes. Each calls the real function of the
+//! supplied files; where that can panic, the answer is an [`Outcome`].
+
+pub mod leaves;
+mod outcome;
+mod stand_in;
+
+pub use outcome::Outcome;
+
+// The two modules below are the supplied files, byte for byte, under the names that they use for
+// one another. `path` names the folder that a module's files stand in. All files but
+// `src/internal.rs` are compiled; nothing in them may be reformatted.
+
+#[rustfmt::skip]
+#[allow(dead_code, clippy::all)]
+#[path = "../../../docs/src/include"]
+mod include {
+    pub mod common {
+        pub mod intops;
+        pub use crate::stand_in::attributes;
+        pub use crate::stand_in::bitdepth;
+    }
+    pub mod dav1d {
+        pub mod headers;
+    }
+}
+
+#[rustfmt::skip]
+#[allow(dead_code, non_upper_case_globals, unused_unsafe, clippy::all)]
+#[path = "../../../docs/src/src"]
+mod src {
+    pub mod align;
+    pub mod assume;
+    pub mod cpu;
+    pub mod disjoint_mut;
+    pub mod env;
+    pub mod error;
+    pub mod ffi_safe;
+    pub mod intra_edge;
+    pub mod levels;
+    pub mod refmvs;
+    pub mod relaxed_atomic;
+    pub use crate::stand_in::const_fn;
+    pub use crate::stand_in::enum_map;
+    pub use crate::stand_in::in_range;
+    pub use crate::stand_in::internal;
+    pub use crate::stand_in::tables;
+    pub use crate::stand_in::wrap_fn_ptr;
+}

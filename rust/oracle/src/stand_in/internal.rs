@@ -1,0 +1,8 @@
+use std::ffi::c_int;
+
+/// As `src/internal.rs` declares it.
+#[derive(Clone, Copy, Default)]
+pub struct Bxy {
+    pub x: c_int,
+    pub y: c_int,
+}
