@@ -15,7 +15,7 @@ use vector::projection::mv_projection;
 ghost use Prim.Native.Nat.{_≤_};
 ghost use lib.ListN.{length};
 
-pub fn answer(s: &[u8])
+pub(crate) fn answer(s: &[u8])
     requires { ⌜ 16 ≤ length (now s) ⌝ }
 {
     let kind = s[0];

@@ -4,17 +4,17 @@ use ground::sign::negative;
 use libc::STDOUT_FILENO;
 
 // The kind, at the start of a line.
-pub fn kind(n: u8) {
+pub(crate) fn kind(n: u8) {
     io::print_decimal(STDOUT_FILENO, n as u64);
 }
 
 // A number behind those before it.
-pub fn number(n: u64) {
+pub(crate) fn number(n: u64) {
     io::write_all(STDOUT_FILENO, b" ");
     io::print_decimal(STDOUT_FILENO, n);
 }
 
-pub fn signed(c: i16) {
+pub(crate) fn signed(c: i16) {
     io::write_all(STDOUT_FILENO, b" ");
     if negative(c) {
         io::write_all(STDOUT_FILENO, b"-");
@@ -22,6 +22,6 @@ pub fn signed(c: i16) {
     io::print_decimal(STDOUT_FILENO, magnitude(c) as u64);
 }
 
-pub fn end() {
+pub(crate) fn end() {
     io::write_all(STDOUT_FILENO, b"\n");
 }
