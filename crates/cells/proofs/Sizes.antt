@@ -1,31 +1,52 @@
 -- Every size is 1 to 32 units wide and high: a test that the checker computes over the table, once. And what the `_` of the match knows.
 -- Assumes nothing.
-use mathlib.Core.Path.{_≡_}
-use mathlib.Core.List.{List, [], _∷_}
+use mathlib.Core.Path.{_≡_, refl, subst}
+use mathlib.Core.Bool.{Bool, true, false, _&&_, and-eq-true-iff}
 use Prim.Native.Nat.{ℕ, zero, suc, _≤_}
 use native.Mathlib.Omega.{arith}
 use lib.Dec.{T, leb}
-use lib.ListN.{getD}
+use borrow.Author.Tests.{leb-true}
+use Rattle.ground.proofs.Tables.{anywhere}
 use Rattle.cells.specs.Size.{sizeOf, sizes}
+use Rattle.cells.specs.declared.size.Dims.{Dims}
 use Rattle.cells.specs.declared.size.Sized.{Sized}
 use Rattle.cells.specs.declared.size.Sized.the-variants.{Of, Refused}
 
-abbrev pub Narrow : Sized → Type 0
-Narrow Refused = Unit
-Narrow (Of d) = (T (leb 1 (d .w .0)) × T (leb (d .w .0) 32)) × (T (leb 1 (d .h .0)) × T (leb (d .h .0) 32))
+upTo32 : ℕ → Bool
+upTo32 n = leb 1 n && leb n 32
 
-abbrev All : List Sized → Type 0
-All [] = Unit
-All (x ∷ xs) = Narrow x × All xs
+narrowly : Sized → Bool
+narrowly Refused = true
+narrowly (Of d) = upTo32 (d .w .0) && upTo32 (d .h .0)
 
-at : (l : List Sized) (n : ℕ) → All l → Narrow (getD l n Refused)
-at [] n a = tt
-at (x ∷ xs) zero a = a .0
-at (x ∷ xs) (suc n) a = at xs n (a .1)
+every-narrow : (n : ℕ) → T (narrowly (sizeOf n))
+unfolding sizeOf narrowly upTo32
+every-narrow n = anywhere narrowly Refused tt sizes 0 tt n
 
-pub narrow : (n : ℕ) → Narrow (sizeOf n)
-unfolding sizeOf
-narrow n = at sizes n (search (tt))
+is-true : (t : Bool) → T t → t ≡ true
+is-true true h = refl
+is-true false h = absurd h
+
+-- the dimensions of a size
+pub record Narrow (d : Dims) : Type 0 where
+  pub some-w : 1 ≤ d .w .0
+  pub few-w : d .w .0 ≤ 32
+  pub some-h : 1 ≤ d .h .0
+  pub few-h : d .h .0 ≤ 32
+
+pub narrow : (n : ℕ) (d : Dims) → sizeOf n ≡ Of d → Narrow d
+unfolding narrowly upTo32
+narrow n d e =
+    let t = is-true (narrowly (Of d)) (subst (λ (s : Sized). T (narrowly s)) e (every-narrow n)) in
+    let h = and-eq-true-iff (upTo32 (d .w .0)) (upTo32 (d .h .0)) .0 t in
+    let w = and-eq-true-iff (leb 1 (d .w .0)) (leb (d .w .0) 32) .0 (h .0) in
+    let g = and-eq-true-iff (leb 1 (d .h .0)) (leb (d .h .0) 32) .0 (h .1) in
+    record {
+      some-w = leb-true 1 (d .w .0) (w .0);
+      few-w = leb-true (d .w .0) 32 (w .1);
+      some-h = leb-true 1 (d .h .0) (g .0);
+      few-h = leb-true (d .h .0) 32 (g .1);
+    }
 
 -- no key of a match on 0, 1, .., k - 1 is n: in the form in which the check hands it over
 abbrev pub Miss : ℕ → ℕ → Type 0

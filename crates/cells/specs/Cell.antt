@@ -2,8 +2,7 @@
 use Prim.Native.Nat.{ℕ, _+_, _*_}
 use mathlib.Core.Bool.{Bool, _&&_, _||_}
 use mathlib.Core.List.{List, _++_}
-use lib.IntN.{ℤ, pos, natAbs}
-use Rattle.ground.specs.Pick.{pick}
+use lib.IntN.{pos}
 use Rattle.ground.specs.Sign.{eqZ, fromTo}
 use Rattle.ground.specs.Twos.{byteAt, byteOf}
 use Rattle.vector.specs.Vector.{invalid, eqMv, within, mvAt, mvBytes}
@@ -15,10 +14,6 @@ cellAt l i = record { mv = mvAt l (5 * i); reference = record { 0 = byteAt l (5 
 
 abbrev pub cellBytes : Cell → List ℕ
 cellBytes c = mvBytes (c .mv) ++ byteOf (c .reference .0)
-
--- z as a number where it is 1 .. most, else 0
-unfoldable pub upTo : ℤ → ℤ → ℕ
-upTo most z = pick (fromTo (pos 1) most z) (natAbs z) 0
 
 -- in a saved field reference 0 marks absence
 unfoldable pub savedAbsent : Cell → Bool

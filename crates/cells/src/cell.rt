@@ -8,7 +8,7 @@ ghost use Prim.Native.Nat.{_+_, _*_, _≤_};
 ghost use lib.ListN.{length};
 ghost use Rattle.ground.specs.Put.{put};
 ghost use Rattle.ground.specs.Sign.{eqZ, fromTo};
-ghost use Rattle.cells.specs.Cell.{cellAt, cellBytes, upTo, savedAbsent, projectedAbsent, wellSaved, wellProjected};
+ghost use Rattle.cells.specs.Cell.{cellAt, cellBytes, savedAbsent, projectedAbsent, wellSaved, wellProjected};
 
 // A reference frame, 1..7, INTRA or NONE; in a projected cell a distance, 1..31.
 pub struct Ref(pub i8);
@@ -28,16 +28,6 @@ impl Ref {
         ensures { λ r. ⌜ r ≡ fromTo lo hi (self .0) ⌝ }
     {
         if lo <= self.0 { self.0 <= hi } else { false }
-    }
-
-    // The reference as a number where it is 1..=most, and 0 where it is not.
-    pub fn up_to(self, most: i8) -> usize
-        ensures { λ r. ⌜ r ≡ upTo most (self .0) ⌝ }
-    {
-        if self.from_to(1, most) {
-            return self.0 as usize;
-        }
-        0
     }
 }
 

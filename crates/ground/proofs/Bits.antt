@@ -110,7 +110,7 @@ eqZ-true (negsuc a) (negsuc b) e = ap negsuc (eqb-true a b e)
 eqZ-true (pos a) (negsuc b) e = cc
 eqZ-true (negsuc a) (pos b) e = cc
 
-pub eqZ-refl : (a : ℤ) → eqZ a a ≡ true
+eqZ-refl : (a : ℤ) → eqZ a a ≡ true
 unfolding eqZ
 eqZ-refl (pos a) = eq-eqb a a refl
 eqZ-refl (negsuc a) = eq-eqb a a refl

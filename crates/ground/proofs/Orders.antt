@@ -28,19 +28,14 @@ done-other P j i s q = go (step-cases P i s)
 module _ (P : Plan) (m₀ : P .Mem) (F : Free P m₀) where
   pub rows-ok : (j k : ℕ) (m : P .Mem) → j < P .jobs → k ≤ P .cnt j → P .Ok m → P .Ok (rows P j k m)
   rows-ok j zero m h l o = o
-  rows-ok j (suc k) m h l o = F .keeps j k (rows P j k m) h l (rows-ok j k m h (omega arith) o)
+  rows-ok j (suc k) m h l o = F .shape .keeps j k (rows P j k m) h l (rows-ok j k m h (omega arith) o)
 
   pub laws : Laws P m₀ (λ _. m₀)
   laws = record {
-    W? = F .W?;
-    apart = F .apart;
-    ok₀ = F .ok₀;
-    keeps = F .keeps;
-    off = F .off;
-    own = λ j s c a h l e w. F .own j (s .done j) (s .mem) (rows P j (s .done j) m₀) h l (a .ok) (rows-ok j (s .done j) m₀ h (omega arith) (F .ok₀))
+    shape = F .shape;
+    own = λ j s c a h l e w. F .own j (s .done j) (s .mem) (rows P j (s .done j) m₀) h l (a .ok) (rows-ok j (s .done j) m₀ h (omega arith) (F .shape .ok₀))
         (λ x v. a .window j x h v) c w;
     begins = λ j c h w. refl;
-    ext = F .ext;
   }
 
   done-same : (j : ℕ) (s : St P) → j < P .jobs → s .done j ≤ P .cnt j → (step P j s) .done j ≡ min (suc (s .done j)) (P .cnt j)

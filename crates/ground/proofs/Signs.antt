@@ -63,23 +63,19 @@ no-below : (m n : ℕ) → ltZ (pos n) (negℤ (pos m)) ≡ false
 no-below zero n = le-ltb n 0 zero-le
 no-below (suc m) n = refl
 
-clip-pos : (m n : ℕ) → Which m n → pick (ltb m n) (pos m) (pos n) ≡ pos (min n m)
-clip-pos m n (less h) = let e : m ≡ min n m = omega arith in pick-true (pos n) (lt-ltb m n h) ∙ ap pos e
-clip-pos m n (more h) = let e : n ≡ min n m = omega arith in pick-false (pos m) (le-ltb m n h) ∙ ap pos e
-
-clip-neg : (m n : ℕ) → Which m n → pick (ltb m n) (negsuc m) (negsuc n) ≡ negℤ (pos (min (suc n) (suc m)))
-clip-neg m n (less h) =
-    let e : suc m ≡ min (suc n) (suc m) = omega arith in pick-true (negsuc n) (lt-ltb m n h) ∙ ap (λ (k : ℕ). negℤ (pos k)) e
-clip-neg m n (more h) =
-    let e : suc n ≡ min (suc n) (suc m) = omega arith in pick-false (negsuc m) (le-ltb m n h) ∙ ap (λ (k : ℕ). negℤ (pos k)) e
+pick-min : (f : ℕ → ℤ) (m n : ℕ) → Which m n → pick (ltb m n) (f m) (f n) ≡ f (min n m)
+pick-min f m n (less h) = let e : m ≡ min n m = omega arith in pick-true (f n) (lt-ltb m n h) ∙ ap f e
+pick-min f m n (more h) = let e : n ≡ min n m = omega arith in pick-false (f m) (le-ltb m n h) ∙ ap f e
 
 pub clip3-is : (m : ℕ) (z : ℤ) → clip3 (negℤ (pos m)) (pos m) z ≡ onMag (λ n. min n m) z
 unfolding clip3
 clip3-is m (pos n) =
-    pick-false (negℤ (pos m)) (no-below m n) ∙ clip-pos m n (which m n)
+    pick-false (negℤ (pos m)) (no-below m n) ∙ pick-min pos m n (which m n)
     ∙ ap (λ (b : Bool). signed b (min n m)) (sym (le-ltb n 0 zero-le))
 clip3-is zero (negsuc n) = let e : 0 ≡ min (suc n) 0 = omega arith in ap (λ (k : ℕ). negℤ (pos k)) e
-clip3-is (suc m) (negsuc n) = clip-neg m n (which m n)
+clip3-is (suc m) (negsuc n) =
+    let e : suc (min n m) ≡ min (suc n) (suc m) = omega arith in
+    pick-min negsuc m n (which m n) ∙ ap (λ (k : ℕ). negℤ (pos k)) e
 
 -- What code puts together from the answers of `negative`, `magnitude` and `with_sign`. The number u is what the local read back, c what the contract speaks of.
 pub rebuilt : (f : ℕ → ℕ) {s : Bool} {m a : ℕ} {r u c : ℤ} → r ≡ signed s m → s ≡ below u → m ≡ f a → a ≡ natAbs u → u ≡ c → r ≡ onMag f c

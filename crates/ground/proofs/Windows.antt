@@ -76,7 +76,7 @@ module _ (P : Plan) (m₀ : P .Mem) (start : ℕ → P .Mem) (L : Laws P m₀ st
   -- before any step
   pub after-fresh : After P m₀ start (fresh P m₀)
   after-fresh = record {
-    ok = L .ok₀;
+    ok = L .shape .ok₀;
     within = λ j h. omega arith;
     others = λ j h. refl;
     window = λ j c h w. L .begins j c h w;
@@ -87,11 +87,11 @@ module _ (P : Plan) (m₀ : P .Mem) (start : ℕ → P .Mem) (L : Laws P m₀ st
   after-row : (j : ℕ) (s : St P) → After P m₀ start s → j < P .jobs → s .done j < P .cnt j → P .ready j (s .done) ≡ true
       → After P m₀ start (act P moved j s)
   after-row j s a h l e = record {
-    ok = L .keeps j (s .done j) (s .mem) h l (a .ok);
+    ok = L .shape .keeps j (s .done j) (s .mem) h l (a .ok);
     within = λ i g. within i g (ℕ-discrete i j);
     others = λ i g. bump-other j i (s .done) (omega arith) ∙ a .others i g;
     window = λ i c g w. window i c g w (ℕ-discrete i j);
-    rest = λ c n. L .off j (s .done j) (s .mem) c h l (a .ok) (n j h) ∙ a .rest c n;
+    rest = λ c n. L .shape .off j (s .done j) (s .mem) c h l (a .ok) (n j h) ∙ a .rest c n;
   }
     where
       within : (i : ℕ) → i < P .jobs → Dec (i ≡ j) → bump j (s .done) i ≤ P .cnt i
@@ -102,7 +102,7 @@ module _ (P : Plan) (m₀ : P .Mem) (start : ℕ → P .Mem) (L : Laws P m₀ st
           → P .at (P .row j (s .done j) (s .mem)) c ≡ P .at (rows P i (bump j (s .done) i) (start i)) c
       window i c g w (yes q) = rw (q, bump-same j (s .done)) (L .own j s c a h l e (subst (λ x. P .W x c) q w))
       window i c g w (no q) = rw (bump-other j i (s .done) q)
-          (L .off j (s .done j) (s .mem) c h l (a .ok) (λ v. q (L .apart i j c g h w v)) ∙ a .window i c g w)
+          (L .shape .off j (s .done j) (s .mem) c h l (a .ok) (λ v. q (L .shape .apart i j c g h w v)) ∙ a .window i c g w)
 
   pub after-step : (j : ℕ) (s : St P) → After P m₀ start s → After P m₀ start (step P j s)
   after-step j s a = go (step-cases P j s)
@@ -121,7 +121,7 @@ module _ (P : Plan) (m₀ : P .Mem) (start : ℕ → P .Mem) (L : Laws P m₀ st
 
   -- Where the same rows are done, the memory is the same.
   pub mem-same : (s t : St P) → After P m₀ start s → After P m₀ start t → ((j : ℕ) → j < P .jobs → s .done j ≡ t .done j) → s .mem ≡ t .mem
-  mem-same s t a b d = L .ext (s .mem) (t .mem) (a .ok) (b .ok) (λ c. go c (owner P (L .W?) c (P .jobs)))
+  mem-same s t a b d = L .shape .ext (s .mem) (t .mem) (a .ok) (b .ok) (λ c. go c (owner P (L .shape .W?) c (P .jobs)))
     where
       go : (c : P .Cell) → ((j : ℕ) × (j < P .jobs) × P .W j c) ⊎ ((j : ℕ) → j < P .jobs → ¬ P .W j c) → P .at (s .mem) c ≡ P .at (t .mem) c
       go c (inl o) = a .window (o .0) c (o .1) (o .2)

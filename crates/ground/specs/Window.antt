@@ -7,8 +7,9 @@ use Prim.Native.Nat.{ℕ, zero, suc, _≤_, _<_, min}
 use lib.Dec.{ltb, eqb}
 use Rattle.ground.specs.Pick.{pick}
 
--- `row j k` is the k-th row of work of job j. Job j may take its next row only where `ready j done` holds of the rows that the jobs have done.
--- `Ok` is the memory's shape, the lengths of its buffers say.
+-- `at m c` is what memory m holds at cell c, and `Ok` says its shape, as the lengths of its buffers. There are `jobs` jobs, numbered from 0: `W j c` says that
+-- cell c is in job j's window, `cnt j` is its count of rows, and `row j k` its k-th row of work. It may take its next row only where `ready j done` holds of
+-- the rows that all jobs have done.
 pub record Plan : Type 1 where
   pub Mem : Type 0
   pub Cell : Type 0
@@ -79,30 +80,30 @@ pub record After (P : Plan) (m₀ : P .Mem) (start : ℕ → P .Mem) (s : St P) 
   pub window : (j : ℕ) (c : P .Cell) → j < P .jobs → P .W j c → P .at (s .mem) c ≡ P .at (rows P j (s .done j) (start j)) c
   pub rest : (c : P .Cell) → ((j : ℕ) → j < P .jobs → ¬ P .W j c) → P .at (s .mem) c ≡ P .at m₀ c
 
--- What is shown of a plan in general. `own` is the one law that speaks of what a row reads: where the job may move, its row on the memory as it stands
--- and its row on its own history leave the same in its window.
-pub record Laws (P : Plan) (m₀ : P .Mem) (start : ℕ → P .Mem) : Type 0 where
+-- What is shown of every plan: windows can be told and share no cell; a row keeps the memory's shape and changes nothing outside its job's window; memories
+-- with equal cells are equal.
+pub record Shape (P : Plan) (m₀ : P .Mem) : Type 0 where
   pub W? : (j : ℕ) (c : P .Cell) → Dec (P .W j c)
   pub apart : (i j : ℕ) (c : P .Cell) → i < P .jobs → j < P .jobs → P .W i c → P .W j c → i ≡ j
   pub ok₀ : P .Ok m₀
   pub keeps : (j k : ℕ) (m : P .Mem) → j < P .jobs → k < P .cnt j → P .Ok m → P .Ok (P .row j k m)
   pub off : (j k : ℕ) (m : P .Mem) (c : P .Cell) → j < P .jobs → k < P .cnt j → P .Ok m → ¬ P .W j c → P .at (P .row j k m) c ≡ P .at m c
+  pub ext : (m t : P .Mem) → P .Ok m → P .Ok t → ((c : P .Cell) → P .at m c ≡ P .at t c) → m ≡ t
+
+-- In general. `own` is the one law that speaks of what a row reads: where the job may move, its row on the memory as it stands and its row on its own
+-- history leave the same in its window.
+pub record Laws (P : Plan) (m₀ : P .Mem) (start : ℕ → P .Mem) : Type 0 where
+  pub shape : Shape P m₀
   pub own : (j : ℕ) (s : St P) (c : P .Cell) → After P m₀ start s → j < P .jobs → s .done j < P .cnt j → P .ready j (s .done) ≡ true → P .W j c
       → P .at (P .row j (s .done j) (s .mem)) c ≡ P .at (rows P j (suc (s .done j)) (start j)) c
   pub begins : (j : ℕ) (c : P .Cell) → j < P .jobs → P .W j c → P .at m₀ c ≡ P .at (start j) c
-  pub ext : (m t : P .Mem) → P .Ok m → P .Ok t → ((c : P .Cell) → P .at m c ≡ P .at t c) → m ≡ t
 
--- What is shown of jobs that never wait: a row keeps the shape, changes nothing outside its job's window, and what it leaves there goes by that window alone.
+-- Of jobs that never wait: what a row leaves in its job's window goes by that window alone.
 pub record Free (P : Plan) (m₀ : P .Mem) : Type 0 where
-  pub W? : (j : ℕ) (c : P .Cell) → Dec (P .W j c)
-  pub apart : (i j : ℕ) (c : P .Cell) → i < P .jobs → j < P .jobs → P .W i c → P .W j c → i ≡ j
-  pub ok₀ : P .Ok m₀
-  pub keeps : (j k : ℕ) (m : P .Mem) → j < P .jobs → k < P .cnt j → P .Ok m → P .Ok (P .row j k m)
-  pub off : (j k : ℕ) (m : P .Mem) (c : P .Cell) → j < P .jobs → k < P .cnt j → P .Ok m → ¬ P .W j c → P .at (P .row j k m) c ≡ P .at m c
+  pub shape : Shape P m₀
   pub own : (j k : ℕ) (m t : P .Mem) → j < P .jobs → k < P .cnt j → P .Ok m → P .Ok t
       → ((c : P .Cell) → P .W j c → P .at m c ≡ P .at t c)
       → (c : P .Cell) → P .W j c → P .at (P .row j k m) c ≡ P .at (P .row j k t) c
-  pub ext : (m t : P .Mem) → P .Ok m → P .Ok t → ((c : P .Cell) → P .at m c ≡ P .at t c) → m ≡ t
   pub moves : (j : ℕ) (d : ℕ → ℕ) → P .ready j d ≡ true
 
 -- What then holds after the steps r: each job has done as many rows as it was named, up to its count; its window holds what that many of its rows leave

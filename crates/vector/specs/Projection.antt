@@ -1,4 +1,4 @@
--- The vector projection process (7.9.3), by component. The standard clips the numerator to ±31; here it lies there already.
+-- The vector projection process (7.9.3), by component. The standard clips numerator and denominator to 31 first; here they lie there already.
 use Prim.Native.Nat.{ℕ, _/_}
 use lib.IntN.{ℤ, pos, negℤ, _*ℤ_}
 use Rattle.ground.specs.Sign.{clip3, round2Signed}

@@ -1,4 +1,4 @@
--- `vector::projection::div_mult` meets its contract. The table's rule is one test, which antt computes at each of its entries.
+-- `vector::projection::div_mult` meets its contract. The table's rule is one test, which the checker computes at each of its entries.
 -- Assumes nothing.
 use borrow.Author.Needs.{needs}
 use native.Mathlib.Omega.{arith}
@@ -22,7 +22,7 @@ right k x = eqb x (16384 / k)
 
 rule : (c : tie.Start) → getD table (c .args .den) 0 ≡ 16384 / c .args .den
 unfolding table right
-rule c = eqb→eq (getD table (c .args .den) 0) (16384 / c .args .den) (at right table tt (c .args .den) (search needs))
+rule c = eqb→eq (getD table (c .args .den) 0) (16384 / c .args .den) (at right 0 table tt (c .args .den) (search needs))
 
 mul-result : tie.Need-mul-result
 mul-result c = search needs
