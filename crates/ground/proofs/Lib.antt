@@ -11,3 +11,4 @@ pub mod Signs
 pub mod Bits
 pub mod Windows
 pub mod Orders
+pub mod Belows

@@ -1,7 +1,7 @@
 -- A choice whose test is known, and two tests that mean the same.
 -- Assumes nothing.
 use mathlib.Core.Path.{_≡_, refl, sym, ap}
-use mathlib.Core.Bool.{Bool, true, false, _&&_, _||_}
+use mathlib.Core.Bool.{Bool, true, false, _&&_, _||_, and-eq-true-iff}
 use Rattle.ground.specs.Pick.{pick}
 
 pub pick-true : {A : Type 0} {t : Bool} {a : A} (b : A) → t ≡ true → pick t a b ≡ a
@@ -16,6 +16,15 @@ and-on {s} {t} e = ap (λ (u : Bool). u && t) e
 
 pub and-off : {s : Bool} (t : Bool) → s ≡ false → (s && t) ≡ false
 and-off {s} t e = ap (λ (u : Bool). u && t) e
+
+-- whichever of the two fails
+pub and-last : (s : Bool) {t : Bool} → t ≡ false → (s && t) ≡ false
+and-last true e = e
+and-last false e = refl
+
+-- both of two tests that are joined
+pub both : (s t : Bool) → (s && t) ≡ true → (s ≡ true) × (t ≡ true)
+both s t = and-eq-true-iff s t .0
 
 pub or-on : {s : Bool} (t : Bool) → s ≡ true → (s || t) ≡ true
 or-on {s} t e = ap (λ (u : Bool). u || t) e

@@ -14,6 +14,10 @@ pub inside-avoids : (lo hi i : ℕ) (ps : List Patch) → Inside lo hi ps → (i
 inside-avoids lo hi i [] h o = tt
 inside-avoids lo hi i (p ∷ ps) h o = (⊎-elim (λ a. _⊎_.inl (omega arith)) (λ a. _⊎_.inr (omega arith)) o, inside-avoids lo hi i ps (h .1) o)
 
+pub inside-append : (lo hi : ℕ) (ps qs : List Patch) → Inside lo hi ps → Inside lo hi qs → Inside lo hi (ps ++ qs)
+inside-append lo hi [] qs h k = k
+inside-append lo hi (p ∷ ps) qs h k = (h .0, inside-append lo hi ps qs (h .1) k)
+
 pub run-append : (ps qs : List Patch) (l : List ℕ) → run (ps ++ qs) l ≡ run qs (run ps l)
 unfolding run
 run-append [] qs l = refl

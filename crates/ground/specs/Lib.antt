@@ -6,3 +6,4 @@ pub mod Script
 pub mod Sign
 pub mod Twos
 pub mod Window
+pub mod Below

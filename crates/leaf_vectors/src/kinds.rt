@@ -1,6 +1,5 @@
 // One case of each kind. A case outside what a function takes prints its kind alone, which is no
 // line of the Rust's.
-use crate::print;
 use cells::block::Block;
 use cells::cell::Cell;
 use cells::cell::Ref;
@@ -8,6 +7,7 @@ use cells::size::Sized;
 use cells::size::dimensions;
 use ground::sign::magnitude;
 use ground::twos::signed_byte;
+use lines::print;
 use vector::hint::get_poc_diff;
 use vector::mv::Mv;
 use vector::precision::fix_mv_precision;
@@ -20,7 +20,7 @@ pub(crate) fn answer(s: &[u8])
 {
     let kind = s[0];
     let body = &s[1..16];
-    print::kind(kind);
+    print::start(kind);
     match kind {
         1 => projection(body),
         2 => precision(body),

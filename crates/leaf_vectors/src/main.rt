@@ -2,7 +2,6 @@
 // a head of 64 bytes and then cases of 16, the first byte the kind; what is printed has to be what
 // the Rust answered (rust/vectors writes both files).
 mod kinds;
-mod print;
 
 use libc::STDIN_FILENO;
 

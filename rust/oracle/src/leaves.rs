@@ -97,21 +97,26 @@ pub fn cell(bytes: [u8; 5]) -> Cell {
     }
 }
 
-/// The fields of a `RefMvsBlock` with these bytes, or nothing where byte 10 is no size code: such
-/// bytes may not become a `RefMvsBlock` at all.
+/// The fields of a `RefMvsBlock` with these bytes, or nothing where byte 10 is no size code.
 pub fn record(bytes: [u8; 12]) -> Option<Record> {
-    const { assert!(mem::size_of::<RefMvsBlock>() == 12) };
-    const { assert!(mem::offset_of!(RefMvsBlock, bs) == 10) };
-    BlockSize::from_repr(bytes[10])?;
-    // SAFETY: The sizes are the same, the enum's byte was just checked, and any bytes make the
-    // numbers of the other fields.
-    let block: RefMvsBlock = unsafe { ptr::read_unaligned(bytes.as_ptr().cast()) };
+    let block = block(bytes)?;
     Some(Record {
         mv: block.mv.mv.map(Vector::from),
         reference: block.r#ref.r#ref,
         size: block.bs as u8,
         mf: block.mf,
     })
+}
+
+/// The `RefMvsBlock` with these bytes, or nothing where byte 10 is no size code: such bytes may not
+/// become a `RefMvsBlock` at all.
+pub(crate) fn block(bytes: [u8; 12]) -> Option<RefMvsBlock> {
+    const { assert!(mem::size_of::<RefMvsBlock>() == 12) };
+    const { assert!(mem::offset_of!(RefMvsBlock, bs) == 10) };
+    BlockSize::from_repr(bytes[10])?;
+    // SAFETY: The sizes are the same, the enum's byte was just checked, and any bytes make the
+    // numbers of the other fields.
+    Some(unsafe { ptr::read_unaligned(bytes.as_ptr().cast()) })
 }
 
 /// The sides of the size with this code, by its name in `BlockSize`; nothing above 21.

@@ -1,10 +1,16 @@
 //! The supplied Rust, compiled unchanged, as the judge of the port.
 //!
 //! The public functions take and give numbers and bytes. Each calls the real function of the
-//! supplied files; where that can panic, the answer is an [`Outcome`].
+//! supplied files; where that can panic, the answer is an [`Outcome`]. Only [`paper`] stands apart:
+//! the Rust has no refusals, so they are read off the scope paper.
 
+pub mod frame;
 pub mod leaves;
 mod outcome;
+pub mod paper;
+pub mod rows;
+mod sequence_header;
+pub mod splat;
 mod stand_in;
 
 pub use outcome::Outcome;

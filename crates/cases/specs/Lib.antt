@@ -1,0 +1,2 @@
+-- What the contracts of the decoders are written with.
+pub mod Case

@@ -1,0 +1,29 @@
+-- `frame::distances::RefHint::well_formed` meets its contract.
+-- Assumes nothing.
+use mathlib.Core.Path.{ap, _∙_}
+use mir.Syntax.{w16}
+use lib.IntN.{natAbs}
+use Rattle.ground.proofs.Bits.{same}
+use Rattle.frame.specs.Distances.{wellHint}
+use borrow.Author.Tests.{le-leb, lt-leb}
+use borrow.Author.Needs.{needs}
+use Rattle.frame.proofs.distances.RefHint.well_formed.Statement.{statement}
+use Rattle.frame.proofs.distances.RefHint.well_formed.Tie as tie
+
+returns : tie.Need-returns
+unfolding wellHint
+returns c = rw (lt-leb _ _ (c .if1 .taken))
+
+returns-2 : tie.Need-returns-2
+unfolding wellHint
+returns-2 c = rw (le-leb _ _ (c .before .before .if1 .left), lt-leb _ _ (c .if2 .taken))
+
+magnitude-requires : tie.Need-magnitude-requires
+magnitude-requires c κs = search needs
+
+returns-3 : tie.Need-returns-3
+unfolding wellHint
+returns-3 c = let s = c .before .before .before .before .before .before .args .self in let e = c .magnitude .ensures ∙ ap natAbs (same w16 (s .pocdiff) (c .before .struct-told .given .1 .1 .0 .1)) in rw (le-leb _ _ (c .before .before .before .before .if1 .left), le-leb _ _ (c .before .before .if2 .left), e)
+
+pub well-formed-spec : {M : Type 1} → statement M
+well-formed-spec = tie.close (tie.spec returns returns-2 magnitude-requires returns-3)

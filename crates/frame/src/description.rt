@@ -1,0 +1,114 @@
+// What a decoder hands over to set a frame up, and whether it is in order.
+use crate::sizes::limited;
+ghost use mathlib.Core.Path.{_≡_};
+ghost use Prim.Native.Nat.{_≤_, _<_, _^_};
+ghost use Rattle.frame.specs.Description.{under, flags, hinted, setupAnswer, hintAt, heldAt};
+
+// References are counted from 0, which is LAST, to 6, which is ALTREF. hints_by_ref holds, from 7 * i
+// on, the hints that reference i's own frame held for its references.
+pub struct Description {
+    pub width: usize,
+    pub height: usize,
+    pub sb128: u8,
+    pub hint_bits: u32,
+    pub current_hint: u32,
+    pub hints: [u8; 7],
+    pub hints_by_ref: [u8; 49],
+    pub tile_rows: usize,
+    pub tile_threads: usize,
+    pub frame_threads: usize,
+    pub temporal: u8,
+}
+
+// Widened, so that an entry of an array can be compared and passed on.
+pub(crate) fn wide(b: u8) -> u32
+    ensures { λ r. ⌜ r ≡ b ⌝ }
+{
+    b as u32
+}
+
+pub(crate) fn all_under(xs: &[u8], limit: u32) -> bool
+    ensures { λ r. ⌜ r ≡ under (now (xs .entry)) limit ⌝ }
+{
+    let mut i: usize = 0;
+    while i < xs.len() {
+        if limit <= wide(xs[i]) {
+            return false;
+        }
+        i += 1;
+    }
+    true
+}
+
+fn flags_fit(d: Description, present: [u8; 7]) -> bool
+    ensures { λ r. ⌜ r ≡ flags d present ⌝ }
+{
+    if 1 < d.sb128 {
+        return false;
+    }
+    if 1 < d.temporal {
+        return false;
+    }
+    all_under(&present, 2)
+}
+
+// What every hint of this many bits lies below.
+fn hint_limit(bits: u32) -> u32
+    requires { ⌜ bits ≤ 8 ⌝ }
+    ensures { λ r. ⌜ r ≡ 2 ^ bits ⌝ }
+{
+    1u32 << bits
+}
+
+fn hints_fit(d: Description) -> bool
+    ensures { λ r. ⌜ r ≡ hinted d ⌝ }
+{
+    if 8 < d.hint_bits {
+        return false;
+    }
+    let whole = hint_limit(d.hint_bits);
+    if whole <= d.current_hint {
+        return false;
+    }
+    if all_under(&d.hints, whole) {
+        return all_under(&d.hints_by_ref, whole);
+    }
+    false
+}
+
+// The answer of frame setup: 1, 2 or 0.
+pub(crate) fn admit(d: Description, present: [u8; 7]) -> u8
+    ensures { λ r. ⌜ r ≡ setupAnswer d present ⌝ }
+{
+    if !limited(
+        d.width,
+        d.height,
+        d.tile_rows,
+        d.tile_threads,
+        d.frame_threads,
+    ) {
+        return 1;
+    }
+    if !flags_fit(d, present) {
+        return 1;
+    }
+    if hints_fit(d) { 0 } else { 2 }
+}
+
+// A reference's hint.
+pub(crate) fn hint(d: Description, r: usize) -> u32
+    requires { ⌜ r < 7 ⌝ }
+    ensures { λ a. ⌜ a ≡ hintAt d r ⌝ }
+{
+    let hints = d.hints;
+    wide(hints[r])
+}
+
+// The hint that reference r's own frame held for reference m.
+pub(crate) fn held(d: Description, r: usize, m: usize) -> u32
+    requires { ⌜ (r < 7) × (m < 7) ⌝ }
+    ensures { λ a. ⌜ a ≡ heldAt d r m ⌝ }
+{
+    let hints = d.hints_by_ref;
+    wide(hints[7 * r + m])
+}

@@ -1,0 +1,2 @@
+-- What the contracts of the shared functions are written with.
+pub mod Little

@@ -1,0 +1,5 @@
+-- The laws of the definitions in specs/.
+pub mod Tabled
+pub mod Parts
+pub mod Splats
+pub mod Apart

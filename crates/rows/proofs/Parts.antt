@@ -1,0 +1,77 @@
+-- Parts of the record buffer: each tile row has one in each pass, they lie apart and inside the listed records, and a table's rows lie apart inside their part.
+-- Assumes nothing.
+use mathlib.Core.Path.{_≡_, refl}
+use mathlib.Core.Logic.{_⊎_, inl, inr}
+use mathlib.Core.Bool.{Bool, true, false, _&&_, not}
+use Prim.Native.Nat.{ℕ, _+_, _*_, _^_, _≤_, _<_}
+use native.Mathlib.Nat.{mul-le-mul-right}
+use native.Mathlib.Omega.{arith}
+use lib.Dec.{ltb, eqb}
+use borrow.Author.Tests.{ltb-true}
+use Rattle.ground.specs.Pick.{pick}
+use Rattle.frame.specs.declared.sizes.Sizes.{Sizes}
+use Rattle.frame.specs.Sizes.{superblock, partOf, passesOf, records, wellSizes}
+use Rattle.frame.proofs.Sizing.{Fits, fits, part-fits, blocks-most, records-most}
+use Rattle.frame.specs.declared.record.Frame.{Frame}
+use Rattle.frame.specs.Record.{wellFrame}
+use Rattle.frame.proofs.Records.{frame-sizes}
+use Rattle.rows.specs.declared.setup.TileRange.{TileRange}
+use Rattle.rows.specs.Setup.{passStart, partStart, ordered, inFrame, isPass, rowsAnswer}
+use Rattle.rows.proofs.Tabled.{sides}
+
+pub in-frame : (s : Sizes) (tile : ℕ) → inFrame s tile ≡ true → partOf s tile < s .«tile_rows»
+unfolding inFrame
+in-frame s tile e = ltb-true (partOf s tile) (s .«tile_rows») e
+
+-- a part of 35 rows ends inside the listed records
+pub part-listed : (s : Sizes) (part pass : ℕ) → part * s .stride + s .stride ≤ s .«n_blocks» → partStart s part pass + 70 * s .stride < records s
+unfolding partStart passStart records passesOf
+part-listed s part pass h = by (ltb 1 (s .«n_frame_threads»)) (eqb pass 2)
+  where
+    by : (a b : Bool) → 70 * (part * s .stride) + pick (a && b) (70 * s .«n_blocks») 0 + 70 * s .stride < 70 * s .«n_blocks» * pick a 2 1 + 1
+    by true true = omega arith
+    by true false = omega arith
+    by false b = omega arith
+
+-- numbers of records fit the machine's
+pub records-fit : (s : Sizes) → Fits s → records s < 2 ^ 32
+unfolding records
+records-fit s f = omega (arith, records-most s f)
+
+pub side-most : (n r : ℕ) → superblock n ≡ true → n * r ≤ 32 * r
+side-most n r e = by (sides n e)
+  where
+    by : (n ≡ 16) ⊎ (n ≡ 32) → n * r ≤ 32 * r
+    by (inl h) = mul-le-mul-right r (omega arith)
+    by (inr h) = mul-le-mul-right r (omega arith)
+
+pub rows-fit : (s : Sizes) (tile pass : ℕ) → wellSizes s ≡ true → inFrame s tile ≡ true
+    → partStart s (partOf s tile) pass + s .sbsz * (2 * s .stride) + 2 * (2 * s .stride) < 2 ^ 64
+rows-fit s tile pass e h =
+    let f = fits s e in
+    let p = part-listed s (partOf s tile) pass (part-fits s tile f (in-frame s tile h)) in
+    let n = side-most (s .sbsz) (2 * s .stride) (f .superblock) in
+    omega (arith, records-fit s f)
+
+pub blocks-fit : (s : Sizes) → Fits s → s .«n_blocks» < 2 ^ 32
+blocks-fit s f = omega (arith, f .blocks, blocks-most (s .width) (s .«tile_rows») (s .«n_tile_threads») (f .limits .width .fits) (f .limits .rows))
+
+-- what an accepted row setup tells
+pub rows-accepted : (f : Frame) (col row : TileRange) (tile pass : ℕ) → rowsAnswer f col row tile pass ≡ 0 → (wellFrame f ≡ true) × (inFrame (f .sizes) tile ≡ true)
+unfolding rowsAnswer
+rows-accepted f col row tile pass e =
+    by (isPass pass) (wellFrame f) (ordered col && ordered row) (inFrame (f .sizes) tile) e
+  where
+    by : (p w o i : Bool) → _≡_ {A = ℕ} (pick (not p) 12 (pick (not w) 1 (pick (o && i) 0 3))) 0 → (w ≡ true) × (i ≡ true)
+    by true true true true h = (refl, refl)
+    by true true true false h = absurd (omega arith)
+    by true true false i h = absurd (omega arith)
+    by true false o i h = absurd (omega arith)
+    by false w o i h = absurd (omega arith)
+
+pub proj-fits : (f : Frame) (col row : TileRange) (tile pass : ℕ) → rowsAnswer f col row tile pass ≡ 0
+    → 16 * (partOf (f .sizes) tile * f .sizes .stride) < 2 ^ 64
+proj-fits f col row tile pass e =
+    let a = rows-accepted f col row tile pass e in
+    let k = fits (f .sizes) (frame-sizes f (a .0)) in
+    omega (arith, part-fits (f .sizes) tile k (in-frame (f .sizes) tile (a .1)), blocks-fit (f .sizes) k)

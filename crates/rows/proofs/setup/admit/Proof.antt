@@ -1,0 +1,62 @@
+-- `rows::setup::admit` meets its contract.
+-- Assumes nothing.
+use Rattle.rows.specs.Setup.{rowsAnswer}
+use borrow.Author.Tests.{not-true, not-false}
+use borrow.Author.Needs.{needs}
+use Rattle.rows.proofs.setup.admit.Statement.{statement}
+use Rattle.rows.proofs.setup.admit.Tie as tie
+
+is-pass-requires : tie.Need-is-pass-requires
+is-pass-requires c κs = search needs
+
+returns : tie.Need-returns
+unfolding rowsAnswer
+returns c = rw (← c .before .is-pass .ensures, not-true (c .before .is-pass .result) (c .if1 .taken))
+
+well-formed-requires : tie.Need-well-formed-requires
+well-formed-requires c κs = search needs
+
+returns-2 : tie.Need-returns-2
+unfolding rowsAnswer
+returns-2 c = rw (← c .before .before .before .is-pass .ensures, not-false (c .before .before .before .is-pass .result) (c .before .before .if1 .left), ← c .before .well-formed .ensures, not-true (c .before .well-formed .result) (c .if2 .taken))
+
+is-ordered-requires : tie.Need-is-ordered-requires
+is-ordered-requires c κs = search needs
+
+returns-3 : tie.Need-returns-3
+unfolding rowsAnswer
+returns-3 c = rw (← c .before .before .before .before .before .is-pass .ensures, not-false (c .before .before .before .before .before .is-pass .result) (c .before .before .before .before .if1 .left), ← c .before .before .before .well-formed .ensures, not-false (c .before .before .before .well-formed .result) (c .before .before .if2 .left), ← c .before .is-ordered .ensures, not-true (c .before .is-ordered .result) (c .if3 .taken))
+
+is-ordered-requires-2 : tie.Need-is-ordered-requires-2
+is-ordered-requires-2 c κs = search needs
+
+returns-4 : tie.Need-returns-4
+unfolding rowsAnswer
+returns-4 c = rw (← c .before .before .before .before .before .before .before .is-pass .ensures, not-false (c .before .before .before .before .before .before .before .is-pass .result) (c .before .before .before .before .before .before .if1 .left), ← c .before .before .before .before .before .well-formed .ensures, not-false (c .before .before .before .before .before .well-formed .result) (c .before .before .before .before .if2 .left), ← c .before .before .before .is-ordered .ensures, not-false (c .before .before .before .is-ordered .result) (c .before .before .if3 .left), ← c .before .is-ordered2 .ensures, not-true (c .before .is-ordered2 .result) (c .if4 .taken))
+
+in-frame-requires : tie.Need-in-frame-requires
+in-frame-requires c κs = search needs
+
+returns-5 : tie.Need-returns-5
+unfolding rowsAnswer
+returns-5 c = rw (← c .before .before .before .before .before .before .before .before .before .before .is-pass .ensures, not-false (c .before .before .before .before .before .before .before .before .before .before .is-pass .result) (c .before .before .before .before .before .before .before .before .before .if1 .left), ← c .before .before .before .before .before .before .before .before .well-formed .ensures, not-false (c .before .before .before .before .before .before .before .before .well-formed .result) (c .before .before .before .before .before .before .before .if2 .left), ← c .before .before .before .before .before .before .is-ordered .ensures, not-false (c .before .before .before .before .before .before .is-ordered .result) (c .before .before .before .before .before .if3 .left), ← c .before .before .before .before .is-ordered2 .ensures, not-false (c .before .before .before .before .is-ordered2 .result) (c .before .before .before .if4 .left), ← c .before .in-frame .ensures, c .if5 .taken)
+
+returns-6 : tie.Need-returns-6
+unfolding rowsAnswer
+returns-6 c = rw (← c .before .before .before .before .before .before .before .before .before .before .is-pass .ensures, not-false (c .before .before .before .before .before .before .before .before .before .before .is-pass .result) (c .before .before .before .before .before .before .before .before .before .if1 .left), ← c .before .before .before .before .before .before .before .before .well-formed .ensures, not-false (c .before .before .before .before .before .before .before .before .well-formed .result) (c .before .before .before .before .before .before .before .if2 .left), ← c .before .before .before .before .before .before .is-ordered .ensures, not-false (c .before .before .before .before .before .before .is-ordered .result) (c .before .before .before .before .before .if3 .left), ← c .before .before .before .before .is-ordered2 .ensures, not-false (c .before .before .before .before .is-ordered2 .result) (c .before .before .before .if4 .left), ← c .before .in-frame .ensures, c .if5 .left)
+
+pub admit-spec : {M : Type 1} → statement M
+admit-spec =
+    tie.close
+    (tie.spec
+    is-pass-requires
+    returns
+    well-formed-requires
+    returns-2
+    is-ordered-requires
+    returns-3
+    is-ordered-requires-2
+    returns-4
+    in-frame-requires
+    returns-5
+    returns-6)

@@ -1,0 +1,78 @@
+-- The row table of a superblock row: which row of records each of the 37 entries stands for.
+use mathlib.Core.Bool.{Bool, _&&_}
+use mathlib.Core.List.{List, [], _∷_}
+use Prim.Native.Nat.{ℕ, zero, suc, _+_, _-_, _*_}
+use lib.Dec.{eqb, ltb, leb}
+use lib.ListN.{getD, set, replicate}
+use Rattle.ground.specs.Pick.{pick}
+use Rattle.rows.specs.declared.table.Place.{Place}
+use Rattle.rows.specs.declared.table.Place.the-variants.{Absent, At}
+use Rattle.rows.specs.declared.table.RowEntry.{RowEntry}
+
+abbrev pub none : RowEntry
+none = record { at = Absent }
+
+abbrev pub there : ℕ → RowEntry
+there p = record { at = At p }
+
+-- Row e of a superblock row of n rows that starts at line 0 of its own table, as the number of a row in its part of the buffer.
+-- Rows above: lines 0, 2 and 4 are the rows 5, 3 and 1 above, and lie behind the superblock row's own rows.
+-- Rows of this superblock row: n lines from line 5 on, in the buffer's order.
+unfoldable pub rowOf : ℕ → ℕ → Place
+rowOf n e =
+    pick (eqb e 0) (At n)
+    (pick (eqb e 2) (At (n + 1))
+    (pick (eqb e 4) (At (n + 2))
+    (pick (leb 5 e && ltb e (n + 5)) (At (e - 5)) Absent)))
+
+-- Swap on odd rows: the rows 5, 3 and 1 above are the last but four, the last but two and the last row of the superblock row before.
+-- They stay where they were written, so lines 0, 2, 4 and n, n + 2, n + 4 change places.
+unfoldable pub partner : ℕ → ℕ → ℕ
+partner n e =
+    pick (eqb e 0) n (pick (eqb e 2) (n + 2) (pick (eqb e 4) (n + 4)
+    (pick (eqb e n) 0 (pick (eqb e (n + 2)) 2 (pick (eqb e (n + 4)) 4 e)))))
+
+-- where the superblock row's own lines start: the table spans 32 rows, and an odd row of 16 has the lower half
+unfoldable pub offsetOf : ℕ → Bool → ℕ
+offsetOf n odd = pick odd (pick (eqb n 16) 16 0) 0
+
+unfoldable pub rowAt : ℕ → Bool → ℕ → Place
+rowAt n odd e =
+    pick (ltb e (offsetOf n odd)) Absent (rowOf n (pick odd (partner n (e - offsetOf n odd)) (e - offsetOf n odd)))
+
+-- a row of the part as a record's number
+unfoldable pub placed : ℕ → ℕ → Place → RowEntry
+placed first stride Absent = none
+placed first stride (At j) = there (first + j * stride)
+
+unfoldable pub entryAt : ℕ → Bool → ℕ → ℕ → ℕ → RowEntry
+entryAt n odd first stride e = placed first stride (rowAt n odd e)
+
+-- f of the n numbers from i on
+unfoldable pub tab : {A : Type 0} → (ℕ → A) → ℕ → ℕ → List A
+tab f i zero = []
+tab f i (suc n) = f i ∷ tab f (suc i) n
+
+unfoldable pub tableOf : ℕ → Bool → ℕ → ℕ → List RowEntry
+tableOf n odd first stride = tab (entryAt n odd first stride) 0 37
+
+-- an entry's place; past the table there is none
+unfoldable pub placeAt : List RowEntry → ℕ → Place
+placeAt rows e = pick (ltb e 37) (getD rows e none .at) Absent
+
+-- How the code makes the table, step by step; proofs/Tabled has it equal to the definition above.
+unfoldable pub filled : List RowEntry → ℕ → ℕ → ℕ → ℕ → List RowEntry
+filled rows at zero first stride = rows
+filled rows at (suc n) first stride = set (filled rows at n first stride) (at + n) (there (first + n * stride))
+
+abbrev pub swapped : List RowEntry → ℕ → ℕ → List RowEntry
+swapped rows i j = set (set rows i (getD rows j none)) j (getD rows i none)
+
+unfoldable pub swaps : List RowEntry → ℕ → ℕ → List RowEntry
+swaps rows off n = swapped (swapped (swapped rows off (off + n)) (off + 2) (off + n + 2)) (off + 4) (off + n + 4)
+
+unfoldable pub plain : ℕ → ℕ → ℕ → ℕ → List RowEntry
+plain n off first stride =
+    set (set (set (filled (replicate 37 none) (off + 5) n first stride) off (there (first + n * stride)))
+    (off + 2) (there (first + (n + 1) * stride)))
+    (off + 4) (there (first + (n + 2) * stride))

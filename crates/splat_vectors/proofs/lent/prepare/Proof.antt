@@ -1,0 +1,53 @@
+-- `splat_vectors::lent::prepare` meets its contract.
+-- Assumes nothing.
+use Prim.Native.Nat.{_≤_, _-_}
+use mathlib.Core.Path.{_≡_}
+use lib.ListN.{length}
+use borrow.Author.Needs.{needs}
+use Rattle.splat_vectors.proofs.lent.prepare.Statement.{statement}
+use Rattle.splat_vectors.proofs.lent.prepare.Tie as tie
+
+abbrev Inv-loop : tie.InvT-loop
+Inv-loop lent₀ i₀ lent i = (i ≤ length lent₀) × (length lent ≡ length lent₀)
+
+abbrev μ-loop : tie.MeasureT-loop
+μ-loop lent₀ i₀ lent i = length lent₀ - i
+
+loop-holds : tie.Need-loop-holds Inv-loop μ-loop
+loop-holds c = search needs
+
+first-byte-requires : tie.Need-first-byte-requires Inv-loop μ-loop
+first-byte-requires c κs = search needs
+
+slice-write-lent : tie.Need-slice-write-lent Inv-loop μ-loop
+slice-write-lent c = search needs
+
+add-i : tie.Need-add-i Inv-loop μ-loop
+add-i c = search needs
+
+loop-less : tie.Need-loop-less Inv-loop μ-loop
+loop-less c = search needs
+
+loop-again : tie.Need-loop-again Inv-loop μ-loop
+loop-again c = search needs
+
+same-length : tie.Need-same-length Inv-loop μ-loop
+same-length c = search needs
+
+returns : tie.Need-returns Inv-loop μ-loop
+returns c = search needs
+
+pub prepare-spec : {M : Type 1} → statement M
+prepare-spec =
+    tie.close
+    (tie.spec
+    Inv-loop
+    μ-loop
+    loop-holds
+    first-byte-requires
+    slice-write-lent
+    add-i
+    loop-less
+    loop-again
+    same-length
+    returns)

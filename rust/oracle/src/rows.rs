@@ -1,0 +1,109 @@
+//! Superblock-row setup.
+
+use crate::frame::Description;
+use crate::frame::Inputs;
+use crate::outcome::outcome_of;
+use crate::src::refmvs::rav1d_refmvs_tile_sbrow_init;
+use crate::src::refmvs::RefMvsFrame;
+use crate::src::refmvs::RefmvsTile;
+use crate::src::refmvs::RefmvsTileRange;
+use crate::Outcome;
+
+/// The Rust's mark for an entry that isn't there.
+const ABSENT: usize = usize::MAX;
+
+/// What a superblock row is set up from. Bounds are in 4-sample units.
+#[derive(Clone, Copy, Debug, PartialEq, Eq)]
+pub struct Place {
+    pub col_start: u32,
+    pub col_end: u32,
+    pub row_start: u32,
+    pub row_end: u32,
+    pub superblock_row: u32,
+    pub tile_row: u32,
+    pub pass: u32,
+}
+
+impl Place {
+    /// The numbers in the order of the Rust's arguments.
+    pub fn numbers(&self) -> [u32; 7] {
+        [
+            self.col_start,
+            self.col_end,
+            self.row_start,
+            self.row_end,
+            self.superblock_row,
+            self.tile_row,
+            self.pass,
+        ]
+    }
+}
+
+/// A superblock row's table.
+#[derive(Clone, Copy, Debug, PartialEq, Eq)]
+pub struct Table {
+    /// Places in the record buffer, or nothing where a row is absent.
+    pub entries: [Option<usize>; 37],
+    /// The tile row's place in the projection buffer.
+    pub projection: usize,
+    pub col_start: i32,
+    pub col_end: i32,
+    pub row_start: i32,
+    pub row_end: i32,
+}
+
+impl From<RefmvsTile> for Table {
+    fn from(rt: RefmvsTile) -> Self {
+        Self {
+            entries: rt.r.map(|entry| (entry != ABSENT).then_some(entry)),
+            projection: rt.rp_proj,
+            col_start: rt.tile_col.start,
+            col_end: rt.tile_col.end,
+            row_start: rt.tile_row.start,
+            row_end: rt.tile_row.end,
+        }
+    }
+}
+
+impl From<&Table> for RefmvsTile {
+    fn from(table: &Table) -> Self {
+        Self {
+            r: table.entries.map(|entry| entry.unwrap_or(ABSENT)),
+            rp_proj: table.projection,
+            tile_col: RefmvsTileRange {
+                start: table.col_start,
+                end: table.col_end,
+            },
+            tile_row: RefmvsTileRange {
+                start: table.row_start,
+                end: table.row_end,
+            },
+        }
+    }
+}
+
+/// `rav1d_refmvs_tile_sbrow_init` on a frame that was just set up.
+///
+/// The numbers must fit the types of the Rust.
+pub fn setup(description: &Description, place: &Place) -> Outcome<Table> {
+    // The references' fields don't come into it.
+    let inputs = Inputs::new(description, [false; 7]);
+    let numbers = place
+        .numbers()
+        .map(|number| i32::try_from(number).expect("a number fits the Rust's type"));
+    outcome_of(|| tile(&inputs.set_up(), numbers).into())
+}
+
+fn tile(rf: &RefMvsFrame, numbers: [i32; 7]) -> RefmvsTile {
+    let [col_start, col_end, row_start, row_end, superblock_row, tile_row, pass] = numbers;
+    rav1d_refmvs_tile_sbrow_init(
+        rf,
+        col_start,
+        col_end,
+        row_start,
+        row_end,
+        superblock_row,
+        tile_row,
+        pass,
+    )
+}

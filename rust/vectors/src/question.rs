@@ -1,0 +1,145 @@
+use oracle::frame;
+use oracle::frame::Description;
+use oracle::frame::Finished;
+use oracle::paper;
+use oracle::paper::FrameRecord;
+use oracle::paper::HintFields;
+use oracle::paper::Slot;
+use std::array;
+use std::fmt::Debug;
+
+/// A frame that is to be set up: 100 bytes at the start of each case.
+#[derive(Clone, Copy)]
+pub struct FrameQuestion {
+    pub description: Description,
+    /// A byte for each reference's field; 0 and 1 are the legal ones.
+    pub present: [u8; 7],
+}
+
+impl FrameQuestion {
+    pub const LEN: usize = 100;
+
+    /// A small frame with references behind and ahead, from which most cases start.
+    pub const BASE: Self = Self {
+        description: Description {
+            width: 200,
+            height: 100,
+            sb128: 0,
+            hint_bits: 7,
+            current_hint: 20,
+            tile_rows: 1,
+            tile_threads: 1,
+            frame_threads: 1,
+            temporal: 1,
+            hints: [19, 17, 16, 12, 24, 23, 21],
+            hints_by_ref: [
+                [18, 17, 16, 12, 26, 24, 28],
+                [16, 12, 11, 8, 20, 19, 24],
+                [12, 11, 8, 4, 20, 17, 24],
+                [8, 4, 3, 0, 16, 16, 20],
+                [19, 17, 16, 12, 28, 27, 32],
+                [20, 19, 17, 12, 24, 24, 28],
+                [20, 19, 17, 16, 24, 23, 22],
+            ],
+        },
+        present: [1; 7],
+    };
+
+    /// A frame of this size, with tile rows, tile threads and frame threads.
+    pub fn sized(
+        width: u32,
+        height: u32,
+        [tile_rows, tile_threads, frame_threads]: [u32; 3],
+    ) -> Self {
+        Self::BASE.with(|question| {
+            question.description.width = width;
+            question.description.height = height;
+            question.description.tile_rows = tile_rows;
+            question.description.tile_threads = tile_threads;
+            question.description.frame_threads = frame_threads;
+        })
+    }
+
+    /// This frame with something changed.
+    pub fn with(mut self, change: impl FnOnce(&mut Self)) -> Self {
+        change(&mut self);
+        self
+    }
+
+    pub fn bytes(&self) -> Vec<u8> {
+        let description = &self.description;
+        let numbers = [
+            description.width,
+            description.height,
+            description.sb128,
+            description.hint_bits,
+            description.current_hint,
+            description.tile_rows,
+            description.tile_threads,
+            description.frame_threads,
+            description.temporal,
+        ];
+        let mut bytes: Vec<u8> = numbers.into_iter().flat_map(u32::to_le_bytes).collect();
+        bytes.extend(description.hints);
+        bytes.extend(description.hints_by_ref.as_flattened());
+        bytes.extend(self.present);
+        bytes.push(0);
+        bytes
+    }
+
+    /// The paper's answer to frame setup.
+    pub fn answer(&self) -> u8 {
+        paper::setup_answer(&self.description, self.present)
+    }
+
+    /// The record that the Rust makes of an accepted question.
+    pub fn finished(&self) -> Result<Finished, String> {
+        frame::setup(&self.description, self.present.map(|flag| flag == 1))
+            .gave()
+            .ok_or_else(|| "the Rust panicked in frame setup".to_string())
+    }
+
+    /// The port's record of an accepted question.
+    pub fn record(&self) -> Result<FrameRecord, String> {
+        let record = frame_record(&self.description, &self.finished()?);
+        match paper::record_answer(&record) {
+            0 => Ok(record),
+            _ => Err("the paper refuses the Rust's own record".to_string()),
+        }
+    }
+}
+
+/// The port's record: the Rust's, and the numbers of the description that the Rust's doesn't keep.
+fn frame_record(description: &Description, finished: &Finished) -> FrameRecord {
+    FrameRecord {
+        width: description.width,
+        height: description.height,
+        iw4: fit(finished.iw4),
+        ih4: fit(finished.ih4),
+        iw8: fit(finished.iw8),
+        ih8: fit(finished.ih8),
+        sbsz: fit(finished.sbsz),
+        stride: finished.rp_stride,
+        tile_rows: description.tile_rows,
+        n_blocks: finished.n_blocks,
+        n_tile_threads: finished.n_tile_threads,
+        n_frame_threads: finished.n_frame_threads,
+        use_ref_frame_mvs: fit(finished.use_ref_frame_mvs),
+        temporal: fit(description.temporal),
+        n_mfmvs: fit(finished.n_mfmvs),
+        hints: array::from_fn(|i| HintFields {
+            sign_bias: finished.sign_bias[i],
+            mfmv_sign: finished.mfmv_sign[i],
+            pocdiff: finished.pocdiff[i],
+        }),
+        slots: array::from_fn(|n| Slot {
+            reference: finished.mfmv_ref[n],
+            ref2cur: finished.mfmv_ref2cur[n].map(fit),
+            ref2ref: finished.mfmv_ref2ref[n].map(fit),
+        }),
+    }
+}
+
+fn fit<T, U: TryInto<T, Error: Debug>>(number: U) -> T {
+    number.try_into().expect("the Rust's number fits its field")
+}

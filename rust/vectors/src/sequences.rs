@@ -1,0 +1,119 @@
+//! Reads the frame set-ups out of traced sequences.
+
+use std::fs;
+use std::path::Path;
+use std::path::PathBuf;
+
+const MAGIC: &[u8] = b"MVSEQ1\n\0";
+
+/// The body of a frame set-up, whole.
+pub const FRAME_LEN: usize = 125;
+
+/// The bodies of all frame set-ups of all sequences in a folder, by file name and then in order.
+pub fn frames(folder: &Path) -> Result<Vec<[u8; FRAME_LEN]>, String> {
+    let mut frames = Vec::new();
+    for path in sequence_files(folder)? {
+        let told = |why: String| format!("{}: {why}", path.display());
+        let bytes = fs::read(&path).map_err(|error| told(error.to_string()))?;
+        frames.extend(frames_of(&bytes).map_err(told)?);
+    }
+    Ok(frames)
+}
+
+fn sequence_files(folder: &Path) -> Result<Vec<PathBuf>, String> {
+    let told = |error| format!("{}: {error}", folder.display());
+    let mut paths = Vec::new();
+    for entry in fs::read_dir(folder).map_err(told)? {
+        let path = entry.map_err(told)?.path();
+        if path.extension().is_some_and(|extension| extension == "seq") {
+            paths.push(path);
+        }
+    }
+    paths.sort();
+    Ok(paths)
+}
+
+fn frames_of(bytes: &[u8]) -> Result<Vec<[u8; FRAME_LEN]>, String> {
+    let mut rest = bytes.strip_prefix(MAGIC).ok_or("no sequence")?;
+    let mut frames = Vec::new();
+    while let Some((&letter, body)) = rest.split_first() {
+        let (body, after) = event_len(letter, body)
+            .and_then(|len| body.split_at_checked(len))
+            .ok_or_else(|| format!("a bad event {} bytes before the end", rest.len()))?;
+        if letter == b'F' {
+            frames.push(body.try_into().expect("the event has its length"));
+        }
+        rest = after;
+    }
+    Ok(frames)
+}
+
+/// The length of an event's body, or nothing for an unknown letter or a body cut short.
+fn event_len(letter: u8, body: &[u8]) -> Option<usize> {
+    match letter {
+        b'F' => Some(FRAME_LEN),
+        b'R' => Some(12),
+        b'S' => Some(18),
+        // Tile row and bounds, the number of runs, then runs of 8 bytes.
+        b'L' | b'V' => {
+            let runs = u16::from_le_bytes([*body.get(9)?, *body.get(10)?]);
+            Some(11 + 8 * usize::from(runs))
+        }
+        // The query with its two references first, count, context, the number of slots, then slots
+        // with one vector or two.
+        b'Q' => {
+            let compound = *body.get(1)? as i8 > 0;
+            let slots = usize::from(*body.get(20)?);
+            Some(21 + slots * if compound { 10 } else { 6 })
+        }
+        _ => None,
+    }
+}
+
+#[cfg(test)]
+mod tests {
+    use super::*;
+
+    /// An event of zeros, but for some of its bytes.
+    fn event(letter: u8, len: usize, set: &[(usize, u8)]) -> Vec<u8> {
+        let mut body = vec![0; len];
+        for &(at, byte) in set {
+            body[at] = byte;
+        }
+        [vec![letter], body].concat()
+    }
+
+    fn sequence() -> Vec<u8> {
+        [
+            MAGIC.to_vec(),
+            event(b'F', 125, &[(0, 1)]),
+            event(b'R', 12, &[]),
+            event(b'S', 18, &[]),
+            // Three runs, then none.
+            event(b'L', 11 + 24, &[(9, 3)]),
+            event(b'V', 11, &[]),
+            // Two slots with one vector, then three with two.
+            event(b'Q', 21 + 12, &[(1, 255), (20, 2)]),
+            event(b'Q', 21 + 30, &[(1, 5), (20, 3)]),
+            event(b'F', 125, &[(0, 2)]),
+        ]
+        .concat()
+    }
+
+    #[test]
+    fn frames_are_found_between_the_other_events() {
+        let frames = frames_of(&sequence()).unwrap();
+        assert_eq!(
+            frames.iter().map(|frame| frame[0]).collect::<Vec<_>>(),
+            [1, 2]
+        );
+    }
+
+    #[test]
+    fn a_bad_sequence_is_told() {
+        let whole = sequence();
+        assert!(frames_of(&whole[..whole.len() - 1]).is_err());
+        assert!(frames_of(&whole[1..]).is_err());
+        assert!(frames_of(&[MAGIC, b"X"].concat()).is_err());
+    }
+}
