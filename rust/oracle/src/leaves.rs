@@ -88,13 +88,18 @@ pub fn is_invalid(y: i16, x: i16) -> bool {
 
 /// The fields of a `RefMvsTemporalBlock` with these bytes.
 pub fn cell(bytes: [u8; 5]) -> Cell {
-    const { assert!(mem::size_of::<RefMvsTemporalBlock>() == 5) };
-    // SAFETY: The sizes are the same, and any bytes make numbers.
-    let block: RefMvsTemporalBlock = unsafe { ptr::read_unaligned(bytes.as_ptr().cast()) };
+    let block = temporal_block(bytes);
     Cell {
         mv: block.mv.into(),
         reference: block.r#ref,
     }
+}
+
+/// The `RefMvsTemporalBlock` with these bytes.
+pub(crate) fn temporal_block(bytes: [u8; 5]) -> RefMvsTemporalBlock {
+    const { assert!(mem::size_of::<RefMvsTemporalBlock>() == 5) };
+    // SAFETY: The sizes are the same, and any bytes make numbers.
+    unsafe { ptr::read_unaligned(bytes.as_ptr().cast()) }
 }
 
 /// The fields of a `RefMvsBlock` with these bytes, or nothing where byte 10 is no size code.

@@ -4,16 +4,21 @@
 //! supplied files; where that can panic, the answer is an [`Outcome`]. Only [`paper`] stands apart:
 //! the Rust has no refusals, so they are read off the scope paper.
 
+mod buffers;
 pub mod frame;
 pub mod leaves;
+pub mod load;
 mod outcome;
 pub mod paper;
 pub mod rows;
+pub mod save;
 mod sequence_header;
 pub mod splat;
 mod stand_in;
+mod window;
 
 pub use outcome::Outcome;
+pub use window::Window;
 
 // The two modules below are the supplied files, byte for byte, under the names that they use for
 // one another. `path` names the folder that a module's files stand in. All files but

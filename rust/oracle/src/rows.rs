@@ -94,7 +94,7 @@ pub fn setup(description: &Description, place: &Place) -> Outcome<Table> {
     outcome_of(|| tile(&inputs.set_up(), numbers).into())
 }
 
-fn tile(rf: &RefMvsFrame, numbers: [i32; 7]) -> RefmvsTile {
+pub(crate) fn tile(rf: &RefMvsFrame, numbers: [i32; 7]) -> RefmvsTile {
     let [col_start, col_end, row_start, row_end, superblock_row, tile_row, pass] = numbers;
     rav1d_refmvs_tile_sbrow_init(
         rf,

@@ -1,8 +1,9 @@
 //! Splat.
 
+use crate::buffers;
+use crate::buffers::real;
 use crate::frame::Description;
 use crate::frame::Inputs;
-use crate::leaves;
 use crate::outcome::outcome_of;
 use crate::rows::Table;
 use crate::src::align::Align16;
@@ -11,8 +12,8 @@ use crate::src::refmvs::Rav1dRefmvsDSPContext;
 use crate::src::refmvs::RefMvsBlock;
 use crate::src::refmvs::RefMvsFrame;
 use crate::src::refmvs::RefmvsTile;
+use crate::window;
 use crate::Outcome;
-use std::mem;
 
 /// A block in 4-sample units.
 #[derive(Clone, Copy, Debug, PartialEq, Eq)]
@@ -34,26 +35,77 @@ pub fn splat(
 ) -> Outcome<Vec<usize>> {
     // The references' fields don't come into it.
     let inputs = Inputs::new(description, [false; 7]);
-    let rt = RefmvsTile::from(table);
-    let [x, y] = [block.bx4, block.by4]
-        .map(|number| i32::try_from(number).expect("a number fits the Rust's type"));
+    let (origin, splatted) = (origin(block), Splatted::new(record));
     outcome_of(|| {
-        let mut rf = inputs.set_up();
-        let before = fill(&mut rf, record);
-        Rav1dRefmvsDSPContext::default().splat_mv.call(
-            &rf,
-            &rt,
-            &Align16(real(record)),
-            Bxy { x, y },
-            block.width as usize,
-            block.height as usize,
-        );
-        written(&rf, before, record)
+        let prepared = Prepared::on(inputs.set_up(), table);
+        let before = fill(&prepared.rf, record);
+        prepared.call_at(origin, block, &splatted);
+        written(&prepared.rf, before, record)
     })
 }
 
+/// A frame with its records and a tile, in the Rust's own types, so that the call alone can be
+/// timed.
+pub struct Prepared {
+    rf: RefMvsFrame,
+    rt: RefmvsTile,
+}
+
+/// A record that may be splatted, in the Rust's own type.
+pub struct Splatted(Align16<RefMvsBlock>);
+
+impl Splatted {
+    /// Byte 10 must be a size code.
+    pub fn new(record: [u8; 12]) -> Self {
+        Self(Align16(real(record)))
+    }
+}
+
+impl Prepared {
+    /// The records are those of a frame that was just set up.
+    pub fn new(description: &Description, table: &Table) -> Self {
+        Self::on(Inputs::new(description, [false; 7]).set_up(), table)
+    }
+
+    fn on(rf: RefMvsFrame, table: &Table) -> Self {
+        let rt = RefmvsTile::from(table);
+        Self { rf, rt }
+    }
+
+    /// `splat_mv`, once. It panics where the Rust does.
+    pub fn call(&self, block: &Block, record: &Splatted) {
+        self.call_at(origin(block), block, record);
+    }
+
+    fn call_at(&self, origin: Bxy, block: &Block, record: &Splatted) {
+        Rav1dRefmvsDSPContext::default().splat_mv.call(
+            &self.rf,
+            &self.rt,
+            &record.0,
+            origin,
+            block.width as usize,
+            block.height as usize,
+        );
+    }
+
+    /// Replaces the records by as many as the bytes hold.
+    pub fn put_records(&mut self, bytes: &[u8]) {
+        buffers::put_blocks(&mut self.rf, &buffers::blocks(bytes));
+    }
+
+    /// The bytes of the records.
+    pub fn records(&self) -> Vec<u8> {
+        buffers::record_buffer(&self.rf)
+    }
+}
+
+fn origin(block: &Block) -> Bxy {
+    let [x, y] = [block.bx4, block.by4].map(window::real);
+    Bxy { x, y }
+}
+
 /// Fills the buffer with the record but for its last bit, so that each written one shows.
-fn fill(rf: &mut RefMvsFrame, record: [u8; 12]) -> [u8; 12] {
+fn fill(rf: &RefMvsFrame, record: [u8; 12]) -> [u8; 12] {
     let mut other = record;
     other[11] ^= 1;
     rf.r.index_mut(..).fill(real(other));
@@ -62,7 +114,7 @@ fn fill(rf: &mut RefMvsFrame, record: [u8; 12]) -> [u8; 12] {
 
 fn written(rf: &RefMvsFrame, before: [u8; 12], record: [u8; 12]) -> Vec<usize> {
     let places = rf.r.index(..);
-    let places = places.iter().map(bytes).enumerate();
+    let places = places.iter().map(buffers::record_bytes).enumerate();
     places
         .filter(|&(_, now)| {
             assert!(now == before || now == record, "a record written in part");
@@ -70,13 +122,4 @@ fn written(rf: &RefMvsFrame, before: [u8; 12], record: [u8; 12]) -> Vec<usize> {
         })
         .map(|(place, _)| place)
         .collect()
-}
-
-fn real(record: [u8; 12]) -> RefMvsBlock {
-    leaves::block(record).expect("byte 10 is a size code")
-}
-
-fn bytes(block: &RefMvsBlock) -> [u8; 12] {
-    // SAFETY: The sizes are the same, and the fields leave no gap.
-    unsafe { mem::transmute(*block) }
 }

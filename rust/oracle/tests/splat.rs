@@ -6,6 +6,8 @@ use oracle::rows::Place;
 use oracle::rows::Table;
 use oracle::splat::splat;
 use oracle::splat::Block;
+use oracle::splat::Prepared;
+use oracle::splat::Splatted;
 use oracle::Outcome;
 use oracle::Outcome::Gave;
 use oracle::Outcome::Panicked;
@@ -84,4 +86,23 @@ fn an_entry_at_the_last_record_is_absent_for_the_rust() {
     assert_eq!(written(&at(1119), [0, 1], [1, 1]), Gave(vec![1120]));
     assert_eq!(written(&at(1119), [0, 1], [2, 1]), Panicked);
     assert_eq!(written(&at(1120), [0, 0], [1, 1]), Panicked);
+}
+
+#[test]
+fn a_prepared_splat_can_be_called_again() {
+    let mut prepared = Prepared::new(&FRAME, &table(0));
+    prepared.put_records(&[0; 12 * 1121]);
+    let block = Block {
+        by4: 0,
+        bx4: 1,
+        width: 1,
+        height: 1,
+    };
+    for record in [RECORD, [0; 12], RECORD] {
+        prepared.call(&block, &Splatted::new(record));
+        let records = prepared.records();
+        assert_eq!(records[..12], [0; 12]);
+        assert_eq!(records[12..24], record);
+        assert_eq!(records.len(), 12 * 1121);
+    }
 }

@@ -2,13 +2,17 @@
 //! answers. With `--check` it only compares. With `--take-frames` and a folder of traced sequences
 //! it writes `real/frames.bin`, which the frame list reads.
 
+mod cells;
 mod damage;
 mod frame;
 mod leaf;
 mod list;
+mod load;
 mod question;
 mod real;
+mod record;
 mod row;
+mod save;
 mod sequences;
 mod splat;
 mod split_mix;
@@ -37,7 +41,14 @@ fn main() -> ExitCode {
 }
 
 fn for_each_list(act: impl Fn(&List) -> Result<(), String>) -> Result<(), String> {
-    for make in [leaf::list, frame::list, row::list, splat::list] {
+    for make in [
+        leaf::list,
+        frame::list,
+        row::list,
+        splat::list,
+        save::list,
+        load::list,
+    ] {
         let list = make()?;
         act(&list)?;
         println!("{}", list.summary);

@@ -1,8 +1,8 @@
 use crate::question::FrameQuestion;
+use crate::record;
 use crate::row::RowQuestion;
 use crate::splat::question::block;
 use crate::splat::question::SplatQuestion;
-use crate::splat::record;
 use crate::split_mix::SplitMix64;
 
 /// Width, height, and tile rows, tile threads, frame threads.

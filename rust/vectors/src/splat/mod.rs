@@ -2,7 +2,6 @@
 
 mod accepted;
 mod question;
-mod record;
 mod refused;
 
 use crate::list;

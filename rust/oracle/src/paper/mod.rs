@@ -1,9 +1,18 @@
 //! Which refusal the scope paper (document 01) gives, read plainly and without the Rust, which has
 //! none. 0 is acceptance.
 
+mod load;
+mod save;
+mod table;
+
+pub use load::load_answer;
+pub use save::save_answer;
+pub use table::row_entries;
+
 use crate::frame::Description;
 use crate::rows::Place;
 use crate::splat::Block;
+use crate::Window;
 use std::ops::RangeInclusive;
 
 const SIDES: RangeInclusive<u32> = 1..=16_384;
@@ -14,8 +23,9 @@ const FLAG: RangeInclusive<u8> = 0..=1;
 /// The references that setup may select.
 const SELECTABLE: [u8; 5] = [0, 1, 4, 5, 6];
 
-/// A block record has 12 bytes.
+/// A block record has 12 bytes, and a motion cell 5.
 const RECORD_LEN: u64 = 12;
+const CELL_LEN: u64 = 5;
 
 /// A finished frame record as the port keeps it: the Rust's, and what it was made from.
 #[derive(Clone, Copy, Debug, PartialEq, Eq)]
@@ -152,19 +162,32 @@ pub fn rows_answer(record: &FrameRecord, place: &Place) -> u8 {
     if record_answer(record) != 0 {
         return 1;
     }
-    let tile_row = if record.n_tile_threads == 1 {
-        0
-    } else {
-        place.tile_row
-    };
     let fine = place.col_start <= place.col_end
         && place.row_start <= place.row_end
-        && tile_row < record.tile_rows;
+        && tile_row(record, place.tile_row) < record.tile_rows;
     if fine {
         0
     } else {
         3
     }
+}
+
+/// With one tile thread any tile row is taken as the first.
+fn tile_row(record: &FrameRecord, index: u32) -> u32 {
+    if record.n_tile_threads == 1 {
+        0
+    } else {
+        index
+    }
+}
+
+/// Refusal 3 of a load or save. Rows are counted before the cut.
+fn window_is_fine(record: &FrameRecord, window: &Window) -> bool {
+    window.col_start <= window.col_end
+        && window.col_end <= record.stride
+        && window.row_start <= window.row_end
+        && window.row_end - window.row_start <= 16
+        && tile_row(record, window.tile_row) < record.tile_rows
 }
 
 /// Splat: 1, then 10, then 4 for the listed size, then row by row 6 and 4.
@@ -222,6 +245,10 @@ fn record_is_well_formed(bytes: [u8; 12]) -> bool {
 fn listed_records(record: &FrameRecord) -> u64 {
     let passes = if record.n_frame_threads > 1 { 2 } else { 1 };
     70 * u64::from(record.n_blocks) * passes + 1
+}
+
+fn saved_cells(record: &FrameRecord) -> u64 {
+    u64::from(record.stride) * u64::from(record.ih8)
 }
 
 /// Row `y` of the block: its entry is needed, then each of its records.

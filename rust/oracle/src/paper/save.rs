@@ -1,0 +1,106 @@
+use super::listed_records;
+use super::record_answer;
+use super::record_is_well_formed;
+use super::row_entries;
+use super::saved_cells;
+use super::window_is_fine;
+use super::FrameRecord;
+use super::CELL_LEN;
+use super::RECORD_LEN;
+use crate::save::Place;
+
+/// Widths in 4-sample units by size code, read off the names.
+const WIDTHS: [u32; 22] = [
+    32, 32, 16, 16, 16, 16, 8, 8, 8, 8, 4, 4, 4, 4, 4, 2, 2, 2, 2, 1, 1, 1,
+];
+
+/// Save: 12, 1, 3, then 4 for the listed sizes, then read by read 6, 4, 8 and 9.
+pub fn save_answer(record: &FrameRecord, place: &Place, records: &[u8], field_len: u64) -> u8 {
+    if ![1, 2].contains(&place.pass) {
+        return 12;
+    }
+    if record_answer(record) != 0 {
+        return 1;
+    }
+    if !window_is_fine(record, &place.window) {
+        return 3;
+    }
+    let short = (records.len() as u64) < RECORD_LEN * listed_records(record);
+    if short || field_len < CELL_LEN * saved_cells(record) {
+        return 4;
+    }
+    let reads = Reads::new(record, place, records);
+    (place.window.row_start..place.window.row_end.min(record.ih8))
+        .find_map(|y| reads.row(y).err())
+        .unwrap_or(0)
+}
+
+/// What a save reads, its window cut.
+struct Reads<'a> {
+    entries: [Option<u64>; 37],
+    col_start: u32,
+    col_end: u32,
+    /// Where a block must have ended.
+    limit: u32,
+    listed: u64,
+    records: &'a [u8],
+}
+
+impl<'a> Reads<'a> {
+    fn new(record: &FrameRecord, place: &Place, records: &'a [u8]) -> Self {
+        let window = &place.window;
+        let col_end = window.col_end.min(record.iw8);
+        Self {
+            entries: row_entries(record, window.tile_row, place.superblock_row, place.pass),
+            col_start: window.col_start,
+            col_end,
+            limit: if col_end < record.iw8 {
+                col_end
+            } else {
+                record.stride
+            },
+            listed: listed_records(record),
+            records,
+        }
+    }
+
+    fn row(&self, y: u32) -> Result<(), u8> {
+        let mut x = self.col_start;
+        while x < self.col_end {
+            x = self.block_end(y, x)?;
+        }
+        Ok(())
+    }
+
+    /// The column after the block that is read for cell (y, x).
+    fn block_end(&self, y: u32, x: u32) -> Result<u32, u8> {
+        let entry = self.entries[6 + 2 * (y as usize % 16)].ok_or(6)?;
+        let at = entry + 2 * u64::from(x) + 1;
+        if at >= self.listed {
+            return Err(4);
+        }
+        let (whole, _) = self.records.as_chunks::<{ RECORD_LEN as usize }>();
+        let bytes = whole[at as usize];
+        if !record_is_well_formed(bytes) {
+            return Err(8);
+        }
+        let end = x + WIDTHS[usize::from(bytes[10])].div_ceil(2);
+        if end <= self.limit {
+            Ok(end)
+        } else {
+            Err(9)
+        }
+    }
+}
+
+#[cfg(test)]
+mod tests {
+    use super::*;
+    use crate::leaves;
+
+    #[test]
+    fn widths_are_those_of_the_names() {
+        let widths = (0..=255).map_while(leaves::size);
+        assert!(widths.map(|size| u32::from(size.width)).eq(WIDTHS));
+    }
+}

@@ -1,0 +1,133 @@
+//! Save.
+
+use crate::buffers;
+use crate::frame::Description;
+use crate::frame::Inputs;
+use crate::outcome::outcome_of;
+use crate::rows;
+use crate::src::disjoint_mut::DisjointMutArcSlice;
+use crate::src::refmvs::Rav1dRefmvsDSPContext;
+use crate::src::refmvs::RefMvsBlock;
+use crate::src::refmvs::RefMvsFrame;
+use crate::src::refmvs::RefMvsTemporalBlock;
+use crate::src::refmvs::RefmvsTile;
+use crate::window;
+use crate::Outcome;
+use crate::Window;
+
+/// What a save covers, and whose row table it reads.
+#[derive(Clone, Copy, Debug, PartialEq, Eq)]
+pub struct Place {
+    pub window: Window,
+    pub superblock_row: u32,
+    pub pass: u32,
+}
+
+impl Place {
+    /// The window's numbers, then the superblock row and the pass.
+    pub fn numbers(&self) -> [u32; 7] {
+        let [tile_row, col_start, col_end, row_start, row_end] = self.window.numbers();
+        [
+            tile_row,
+            col_start,
+            col_end,
+            row_start,
+            row_end,
+            self.superblock_row,
+            self.pass,
+        ]
+    }
+
+    fn real(&self) -> [i32; 7] {
+        self.numbers().map(window::real)
+    }
+}
+
+/// `save_tmvs` on a frame that was just set up: the field's bytes afterwards.
+///
+/// Byte 10 of each record must be a size code, and the numbers must fit the Rust's types.
+pub fn save(
+    description: &Description,
+    present: [bool; 7],
+    place: &Place,
+    records: &[u8],
+    field: &[u8],
+) -> Outcome<Vec<u8>> {
+    let inputs = Inputs::new(description, present);
+    let (numbers, blocks) = (place.real(), buffers::blocks(records));
+    outcome_of(|| {
+        let prepared = Prepared::on(inputs.set_up(), numbers, &blocks, field);
+        prepared.call();
+        let mut after = field.to_vec();
+        prepared.take_field(&mut after);
+        after
+    })
+}
+
+/// A save with all that it needs in the Rust's own types, so that the call alone can be timed.
+pub struct Prepared {
+    rf: RefMvsFrame,
+    rt: RefmvsTile,
+    field: Option<DisjointMutArcSlice<RefMvsTemporalBlock>>,
+    bounds: [i32; 4],
+}
+
+impl Prepared {
+    /// Holds the whole records and cells of the lent bytes.
+    pub fn new(
+        description: &Description,
+        present: [bool; 7],
+        place: &Place,
+        records: &[u8],
+        field: &[u8],
+    ) -> Self {
+        let rf = Inputs::new(description, present).set_up();
+        Self::on(rf, place.real(), &buffers::blocks(records), field)
+    }
+
+    fn on(mut rf: RefMvsFrame, numbers: [i32; 7], blocks: &[RefMvsBlock], field: &[u8]) -> Self {
+        let [tile_row, col_start, col_end, row_start, row_end, superblock_row, pass] = numbers;
+        buffers::put_blocks(&mut rf, blocks);
+        // A save doesn't read the tile's bounds.
+        let rt = rows::tile(&rf, [0, 0, 0, 0, superblock_row, tile_row, pass]);
+        Self {
+            rf,
+            rt,
+            field: Some(buffers::cells(field).collect()),
+            bounds: [col_start, col_end, row_start, row_end],
+        }
+    }
+
+    /// `save_tmvs`, once. It panics where the Rust does.
+    pub fn call(&self) {
+        let [col_start, col_end, row_start, row_end] = self.bounds;
+        Rav1dRefmvsDSPContext::default().save_tmvs.call(
+            &self.rt,
+            &self.rf,
+            &self.field,
+            col_start,
+            col_end,
+            row_start,
+            row_end,
+        );
+    }
+
+    /// Replaces the records by as many as the bytes hold.
+    pub fn put_records(&mut self, bytes: &[u8]) {
+        buffers::put_blocks(&mut self.rf, &buffers::blocks(bytes));
+    }
+
+    /// Replaces the field, which keeps its length.
+    pub fn put_field(&mut self, bytes: &[u8]) {
+        buffers::put_cells(&mut self.cells().inner.index_mut(..), bytes);
+    }
+
+    /// Copies the field out. What stands behind the last whole cell stays.
+    pub fn take_field(&self, bytes: &mut [u8]) {
+        buffers::take_cells(&self.cells().inner.index(..), bytes);
+    }
+
+    fn cells(&self) -> &DisjointMutArcSlice<RefMvsTemporalBlock> {
+        self.field.as_ref().expect("a save has its field")
+    }
+}
