@@ -27,7 +27,7 @@ pub(crate) fn wide(b: u8) -> u32
     b as u32
 }
 
-pub(crate) fn all_under(xs: &[u8], limit: u32) -> bool
+pub fn all_under(xs: &[u8], limit: u32) -> bool
     ensures { λ r. ⌜ r ≡ under (now (xs .entry)) limit ⌝ }
 {
     let mut i: usize = 0;

@@ -2,14 +2,14 @@
 -- A linear fact about integers is: each side as one difference (`as-pos`, `as-neg`, `add`, `neg`), and `diff` between them.
 -- Assumes nothing.
 use mathlib.Core.Path.{_≡_, refl, sym, ap, ap₂, _∙_}
-use mathlib.Core.Bool.{false, cond}
+use mathlib.Core.Bool.{false, not, cond}
 use Prim.Native.Nat.{ℕ, zero, suc, _+_, _-_, _≤_, _<_, zero-le}
 use native.Mathlib.Decide.{decLt}
 use native.Mathlib.Omega.{arith}
-use lib.Dec.{ltb}
+use lib.Dec.{ltb, leb}
 use lib.IntN.{ℤ, pos, negsuc, negℤ, subℕ, _+ℤ_}
-use lib.Signed.{ltZ}
-use borrow.Author.Tests.{lt-ltb, le-ltb, ltb-false}
+use lib.Signed.{ltZ, leZ}
+use borrow.Author.Tests.{lt-ltb, le-ltb, lt-leb, le-leb, ltb-false}
 
 -- which of two is larger
 pub data Which (a b : ℕ) : Type 0 where
@@ -84,6 +84,23 @@ test a b c d = by (which a b) (which c d)
         both : Which (d - suc c) (b - suc a) → ltb (d - suc c) (b - suc a) ≡ ltb (a + d) (c + b)
         both (more l) = le-ltb (d - suc c) (b - suc a) l ∙ sym (le-ltb (a + d) (c + b) (omega arith))
         both (less l) = lt-ltb (d - suc c) (b - suc a) l ∙ sym (lt-ltb (a + d) (c + b) (omega arith))
+
+-- the same for at most
+pub leb-not : (a b : ℕ) → leb a b ≡ not (ltb b a)
+leb-not a b = by (which b a)
+  where
+    by : Which b a → leb a b ≡ not (ltb b a)
+    by (more h) = le-leb a b h ∙ sym (ap not (le-ltb b a h))
+    by (less h) = lt-leb a b h ∙ sym (ap not (lt-ltb b a h))
+
+leZ-not : (y z : ℤ) → leZ y z ≡ not (ltZ z y)
+leZ-not (pos a) (pos b) = leb-not a b
+leZ-not (pos a) (negsuc b) = refl
+leZ-not (negsuc a) (pos b) = refl
+leZ-not (negsuc a) (negsuc b) = leb-not b a
+
+pub test-most : (a b c d : ℕ) → leZ (subℕ a b) (subℕ c d) ≡ leb (a + d) (c + b)
+test-most a b c d = leZ-not (subℕ a b) (subℕ c d) ∙ ap not (test c d a b) ∙ sym (leb-not (a + d) (c + b))
 
 -- a number is not below itself
 under-none : (z : ℤ) → ltZ z z ≡ false

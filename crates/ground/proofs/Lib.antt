@@ -12,3 +12,4 @@ pub mod Bits
 pub mod Windows
 pub mod Orders
 pub mod Belows
+pub mod Spans

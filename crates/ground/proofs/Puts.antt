@@ -3,12 +3,13 @@
 use mathlib.Core.Path.{_≡_, refl, sym, ap, _∙_}
 use mathlib.Core.Logic.{_⊎_, ⊎-elim}
 use mathlib.Core.List.{List, [], _∷_, _++_}
-use Prim.Native.Nat.{ℕ, zero, suc, _+_, _≤_, _<_}
-use native.Mathlib.Nat.{add-zero}
+use Prim.Native.Nat.{ℕ, zero, suc, _+_, _-_, _*_, _≤_, _<_}
+use native.Mathlib.Nat.{add-zero, zero-mul, suc-mul}
+use native.Mathlib.Numerals.{sub-one}
 use native.Mathlib.Omega.{arith}
-use lib.ListN.{length, getD, set, length-set}
+use lib.ListN.{length, getD, set, length-set, length-append}
 use lib.Seq.{getD-set-other, getD-set-same}
-use Rattle.ground.specs.Put.{put}
+use Rattle.ground.specs.Put.{put, copies}
 
 pub put-length : (l : List ℕ) (i : ℕ) (bs : List ℕ) → length (put l i bs) ≡ length l
 unfolding put
@@ -55,3 +56,24 @@ unfolding put
 put-local l m i [] j d n e = e
 put-local l m i (b ∷ bs) j d n e =
     put-local (set l i b) (set m i b) (suc i) bs j d (length-set l i b ∙ n ∙ sym (length-set m i b)) (set-local l m i b j d n e)
+
+-- copies of the same bytes, laid one after the other
+pub copies-on : (s : List ℕ) {t : List ℕ} (bs : List ℕ) (i next left : ℕ) → next ≡ i + length bs → 0 < left → t ≡ put s i bs
+    → put t next (copies (left - 1) bs) ≡ put s i (copies left bs)
+unfolding copies
+copies-on s bs i next zero k h e = absurd (omega arith)
+copies-on s bs i next (suc n) k h e = rw (e, k, sub-one) (sym (put-append s i bs (copies n bs)))
+
+pub copies-done : (s bs : List ℕ) (i left : ℕ) → left ≤ 0 → put s i (copies left bs) ≡ s
+unfolding copies put
+copies-done s bs i zero h = refl
+copies-done s bs i (suc n) h = absurd (omega arith)
+
+pub copies-length : (n : ℕ) (bs : List ℕ) → length (copies n bs) ≡ n * length bs
+unfolding copies
+copies-length zero bs = sym (zero-mul (length bs))
+copies-length (suc n) bs =
+    let e = length-append bs (copies n bs) in
+    let k = copies-length n bs in
+    let m = suc-mul n (length bs) in
+    omega arith

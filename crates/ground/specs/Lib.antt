@@ -7,3 +7,4 @@ pub mod Sign
 pub mod Twos
 pub mod Window
 pub mod Below
+pub mod Span

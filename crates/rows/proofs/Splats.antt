@@ -11,12 +11,12 @@ use lib.Dec.{leb, ltb, eqb}
 use lib.ListN.{length, length-append}
 use borrow.Author.Tests.{leb-true, le-leb, lt-leb, ltb-false, not-false}
 use Rattle.ground.specs.Pick.{pick}
-use Rattle.ground.specs.Put.{put}
+use Rattle.ground.specs.Put.{put, copies}
 use Rattle.ground.specs.Script.{run, Inside}
 use Rattle.ground.proofs.Picks.{both}
 use Rattle.ground.proofs.Diffs.{Which, more, less, which}
 use Rattle.ground.proofs.Answers.{refused-not, both-accept, or-accepts, or-refuses, accepted-inside}
-use Rattle.ground.proofs.Puts.{put-append}
+use Rattle.ground.proofs.Puts.{copies-length}
 use Rattle.ground.proofs.Scripts.{run-append, inside-append}
 use Rattle.cells.specs.declared.block.Block.{Block}
 use Rattle.cells.specs.Block.{blockBytes, wellBlock}
@@ -31,7 +31,7 @@ use Rattle.frame.specs.Record.{wellFrame}
 use Rattle.frame.proofs.Sizing.{Fits, part-fits, passes-some}
 use Rattle.rows.specs.declared.setup.Tile.{Tile}
 use Rattle.rows.specs.declared.splat.Splat.{Splat}
-use Rattle.rows.specs.Splat.{holds, spans, placeable, firstEntry, rowRead, rowsRead, splatAnswer, copies, rowPatch, rowPatches, splatScript}
+use Rattle.rows.specs.Splat.{holds, spans, placeable, firstEntry, rowRead, rowsRead, splatAnswer, rowPatch, rowPatches, splatScript}
 
 -- Reading: the loop counts down, and what is left answers for the whole.
 module _ (rows : List RowEntry) (total reach : ℕ) where
@@ -81,20 +81,6 @@ rows-wider rows total whole reach e (suc n) l z =
     let p = both-accept (rowRead total reach (placeAt rows e)) (rowsRead rows total reach (suc e) n) z in
     or-accepts (rowRead whole reach (placeAt rows e)) (rowsRead rows whole reach (suc e) n) (row-wider total whole reach (placeAt rows e) l (p .0))
     ∙ rows-wider rows total whole reach (suc e) n l (p .1)
-
--- Laying the copies of a record, one after the other.
-pub copies-on : (s : List ℕ) {t : List ℕ} (block : Block) (i left : ℕ) → 0 < left → t ≡ put s (12 * i) (blockBytes block)
-    → put t (12 * (i + 1)) (copies (left - 1) (blockBytes block)) ≡ put s (12 * i) (copies left (blockBytes block))
-unfolding copies
-copies-on s block i zero h e = absurd (omega arith)
-copies-on s block i (suc n) h e =
-    let k : 12 * (i + 1) ≡ 12 * i + 12 = omega arith in
-    rw (e, sub-one, k) (sym (put-append s (12 * i) (blockBytes block) (copies n (blockBytes block))))
-
-pub copies-done : (s : List ℕ) (block : Block) (i left : ℕ) → left ≤ 0 → put s (12 * i) (copies left (blockBytes block)) ≡ s
-unfolding copies put
-copies-done s block i zero h = refl
-copies-done s block i (suc n) h = absurd (omega arith)
 
 -- a row, and the rows
 pub row-absent : (s : List ℕ) (block : Block) (x w : ℕ) (p : Place) → p ≡ Absent → s ≡ run (rowPatch block x w p) s
@@ -179,20 +165,12 @@ unfolding firstEntry
 entry-most y = omega arith
 
 -- Nothing is written past the listed records, whatever the call is given.
-copies-length : (block : Block) (n : ℕ) → length (copies n (blockBytes block)) ≡ 12 * n
-unfolding copies
-copies-length block zero = refl
-copies-length block (suc n) =
-    let e = length-append (blockBytes block) (copies n (blockBytes block)) in
-    let k = copies-length block n in
-    omega arith
-
 row-inside : (block : Block) (total x w : ℕ) (p : Place) → rowRead total (x + w) p ≡ 0 → Inside 0 (12 * total) (rowPatch block x w p)
 unfolding rowPatch
 row-inside block total x w Absent z = tt
 row-inside block total x w (At o) z =
     let h = row-there total (x + w) (At o) o refl z in
-    let l = copies-length block w in
+    let l = copies-length w (blockBytes block) in
     ((omega arith, omega arith), tt)
 
 rows-inside : (rows : List RowEntry) (block : Block) (total x w e n : ℕ) → rowsRead rows total (x + w) e n ≡ 0

@@ -5,6 +5,7 @@ use mathlib.Core.List.{List, [], _∷_, _++_}
 use lib.Dec.{ltb, leb}
 use Rattle.ground.specs.Pick.{pick}
 use Rattle.ground.specs.Answer.{orElse, accepted}
+use Rattle.ground.specs.Put.{copies}
 use Rattle.ground.specs.Script.{Patch}
 use Rattle.cells.specs.declared.block.Block.{Block}
 use Rattle.cells.specs.Block.{blockBytes, wellBlock}
@@ -51,11 +52,6 @@ splatAnswer f t b length =
     (pick (not (placeable (f .sizes) t b)) 10
     (pick (ltb length (12 * records (f .sizes))) 4
     (rowsRead (t .rows) (records (f .sizes)) (b .x .0 + b .w .0) (firstEntry (b .y .0)) (b .h .0))))
-
--- n times the same bytes
-unfoldable pub copies : ℕ → List ℕ → List ℕ
-copies zero bs = []
-copies (suc n) bs = bs ++ copies n bs
 
 -- one patch for each row: w records from column x on
 unfoldable pub rowPatch : Block → (x w : ℕ) → Place → List Patch

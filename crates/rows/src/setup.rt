@@ -48,13 +48,13 @@ impl TileRange {
     }
 }
 
-fn lesser(a: usize, b: usize) -> usize
+pub fn lesser(a: usize, b: usize) -> usize
     ensures { λ r. ⌜ r ≡ min a b ⌝ }
 {
     if a < b { a } else { b }
 }
 
-fn is_pass(pass: usize) -> bool
+pub fn is_pass(pass: usize) -> bool
     ensures { λ r. ⌜ r ≡ isPass pass ⌝ }
 {
     if pass == 1 { true } else { pass == 2 }

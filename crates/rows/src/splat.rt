@@ -15,11 +15,11 @@ ghost use Prim.Native.Nat.{_+_, _*_, _/_, _^_, _≤_, _<_};
 ghost use lib.Dec.{leb};
 ghost use lib.ListN.{length};
 ghost use Rattle.ground.specs.Pick.{pick};
-ghost use Rattle.ground.specs.Put.{put};
+ghost use Rattle.ground.specs.Put.{put, copies};
 ghost use Rattle.ground.specs.Script.{run};
 ghost use Rattle.cells.specs.Block.{blockBytes};
 ghost use Rattle.frame.specs.Sizes.{wellSizes};
-ghost use Rattle.rows.specs.Splat.{holds, spans, placeable, firstEntry, rowRead, rowsRead, splatAnswer, copies, rowPatch, rowPatches, splatScript};
+ghost use Rattle.rows.specs.Splat.{holds, spans, placeable, firstEntry, rowRead, rowsRead, splatAnswer, rowPatch, rowPatches, splatScript};
 
 // A record and the place that it is laid over: y and x of the block's first record, its width and
 // height.

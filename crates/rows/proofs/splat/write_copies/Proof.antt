@@ -5,10 +5,9 @@ use native.Mathlib.Omega.{arith}
 use borrow.Author.Needs.{needs}
 use Prim.Native.Nat.{_+_, _*_}
 use lib.ListN.{length}
-use Rattle.ground.specs.Put.{put}
+use Rattle.ground.specs.Put.{put, copies}
+use Rattle.ground.proofs.Puts.{copies-on, copies-done}
 use Rattle.cells.specs.Block.{blockBytes}
-use Rattle.rows.specs.Splat.{copies}
-use Rattle.rows.proofs.Splats.{copies-on, copies-done}
 use Rattle.rows.proofs.splat.write_copies.Statement.{statement}
 use Rattle.rows.proofs.splat.write_copies.Tie as tie
 
@@ -34,13 +33,13 @@ loop-less : tie.Need-loop-less Inv-loop μ-loop
 loop-less c = search needs
 
 loop-again : tie.Need-loop-again Inv-loop μ-loop
-loop-again c = let l = c .before .before .before .before .before .loop in (omega arith, search needs, copies-on (l .records) (c .before .before .before .before .before .before .before .args .block) (l .i) (l .left) (c .before .before .before .before .loop-test .taken) (c .before .before .write .ensures) ∙ l .inv .2)
+loop-again c = let l = c .before .before .before .before .before .loop in (omega arith, search needs, copies-on (l .records) (blockBytes (c .before .before .before .before .before .before .before .args .block)) (12 * l .i) (12 * (l .i + 1)) (l .left) (omega arith) (c .before .before .before .before .loop-test .taken) (c .before .before .write .ensures) ∙ l .inv .2)
 
 same-length : tie.Need-same-length Inv-loop μ-loop
 same-length c = search needs
 
 returns : tie.Need-returns Inv-loop μ-loop
-returns c = sym (copies-done _ (c .before .before .before .args .block) _ _ (c .loop-test .left)) ∙ c .before .loop .inv .2
+returns c = sym (copies-done _ (blockBytes (c .before .before .before .args .block)) _ _ (c .loop-test .left)) ∙ c .before .loop .inv .2
 
 pub write-copies-spec : {M : Type 1} → statement M
 write-copies-spec =
