@@ -15,11 +15,10 @@ use borrow.Author.Tests.{leb-true, ne-eqb}
 use Rattle.ground.specs.Pick.{pick}
 use Rattle.ground.specs.Sign.{eqZ}
 use Rattle.ground.specs.Below.{allBelow}
-use Rattle.ground.specs.Answer.{accepted}
 use Rattle.ground.specs.Put.{put}
 use Rattle.ground.specs.Script.{run}
-use Rattle.ground.specs.Twos.{halfAt, twos16, bits16}
-use Rattle.ground.specs.Little.{fourAt, fours}
+use Rattle.ground.specs.Twos.{twos16, bits16}
+use Rattle.ground.specs.Little.{fours}
 use Rattle.ground.proofs.Picks.{both}
 use Rattle.ground.proofs.Belows as belows
 use Rattle.ground.proofs.Answers.{refused-not, run-accepted}
@@ -35,7 +34,7 @@ use Rattle.frame.specs.Description.{under, setupAnswer, hintAt}
 use Rattle.frame.specs.Distances.{seven, refHints, fromCurrent, wellHint}
 use Rattle.frame.specs.Selection.{selected}
 use Rattle.frame.specs.Mfmv.{far, towards, refToRef, mfmvOf, idle, noMfmv, slotOf, slots, selectable, wellCur, wellMfmv}
-use Rattle.frame.specs.Sizes.{eighths, strideOf, wellSizes}
+use Rattle.frame.specs.Sizes.{wellSizes}
 use Rattle.frame.specs.Record.{frameOf, noHint, wellFrame}
 use Rattle.frame.proofs.Sizing.{Fits, fits, eighths-most, stride-most, blocks-most}
 use Rattle.frame.proofs.Records.{setup-passes, frame-sizes}

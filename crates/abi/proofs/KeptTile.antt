@@ -2,15 +2,13 @@
 -- Assumes nothing.
 use mathlib.Core.Path.{_≡_, refl, sym, ap, _∙_}
 use mathlib.Core.Bool.{Bool, true, false, _&&_, _||_}
-use mathlib.Core.List.{List, [], _∷_, _++_}
+use mathlib.Core.List.{List}
 use Prim.Native.Nat.{ℕ, _+_, _*_, _^_, _≤_, _<_, min}
 use native.Mathlib.Nat.{zero-add}
 use native.Mathlib.Omega.{arith}
 use lib.Dec.{ltb, leb}
 use lib.ListN.{length, getD}
 use borrow.Author.Tests.{ne-eqb, lt-ltb, lt-leb, ltb-true, leb-true}
-use Rattle.ground.specs.Pick.{pick}
-use Rattle.ground.specs.Answer.{accepted}
 use Rattle.ground.specs.Put.{put}
 use Rattle.ground.specs.Script.{run}
 use Rattle.ground.specs.Little.{fourAt, fours}
@@ -19,13 +17,11 @@ use Rattle.ground.proofs.Answers.{refused-not, run-accepted}
 use Rattle.ground.proofs.Littles.{four-whole}
 use Rattle.cells.specs.declared.pos.Pos4.{Pos4}
 use Rattle.frame.specs.declared.record.Frame.{Frame}
-use Rattle.frame.specs.declared.sizes.Sizes.{Sizes}
-use Rattle.frame.specs.Sizes.{records, partOf, wellSizes}
-use Rattle.frame.proofs.Sizing.{Fits, fits, part-fits, eighths-most, blocks-most, records-most}
+use Rattle.frame.specs.Sizes.{records, wellSizes}
+use Rattle.frame.proofs.Sizing.{fits, part-fits, eighths-most, blocks-most, records-most}
 use Rattle.frame.proofs.Records.{frame-sizes}
 use Rattle.rows.specs.declared.table.Place.{Place}
 use Rattle.rows.specs.declared.table.Place.the-variants.{Absent, At}
-use Rattle.rows.specs.declared.table.RowEntry.{RowEntry}
 use Rattle.rows.specs.declared.setup.TileRange.{TileRange}
 use Rattle.rows.specs.declared.setup.Tile.{Tile}
 use Rattle.rows.specs.Table.{none, tab, tableOf, placeAt}

@@ -12,7 +12,7 @@ use lib.Signed.{mag}
 use mir.Syntax.{w16}
 use Rattle.ground.specs.Put.{put}
 use Rattle.ground.specs.Twos.{halfAt, twos16, bits16}
-use Rattle.ground.specs.Little.{four, fourAt, fourBytes, fours}
+use Rattle.ground.specs.Little.{fourAt, fourBytes, fours}
 use Rattle.ground.proofs.Puts.{put-inside}
 use Rattle.ground.proofs.Littles.{four-whole}
 use Rattle.ground.proofs.Bits.{same}
