@@ -1,0 +1,7 @@
+-- Laws of the layouts and of the answers.
+pub mod Pieces
+pub mod Lent
+pub mod Entries
+pub mod Places
+pub mod KeptFrame
+pub mod KeptTile

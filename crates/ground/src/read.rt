@@ -1,0 +1,64 @@
+// Numbers out of lent bytes, the low byte first.
+ghost use mathlib.Core.Path.{_≡_};
+ghost use Prim.Native.Nat.{_+_, _*_, _≤_, min};
+ghost use lib.ListN.{length};
+ghost use Rattle.ground.specs.Little.{four, fourAt, held16};
+
+fn joined(a: u8, b: u8, c: u8, d: u8) -> u32
+    ensures { λ r. ⌜ r ≡ four a b c d ⌝ }
+{
+    a as u32 + 256 * (b as u32) + 65536 * (c as u32) + 16777216 * (d as u32)
+}
+
+pub fn u32_at(s: &[u8], at: usize) -> u32
+    requires { ⌜ at + 4 ≤ length (now s) ⌝ }
+    ensures { λ r. ⌜ r ≡ fourAt (now (s .entry)) at ⌝ }
+{
+    joined(s[at], s[at + 1], s[at + 2], s[at + 3])
+}
+
+pub fn size_at(s: &[u8], at: usize) -> usize
+    requires { ⌜ at + 4 ≤ length (now s) ⌝ }
+    ensures { λ r. ⌜ r ≡ fourAt (now (s .entry)) at ⌝ }
+{
+    u32_at(s, at) as usize
+}
+
+fn to_byte(n: u32) -> u8
+    ensures { λ r. ⌜ r ≡ min n 255 ⌝ }
+{
+    if n < 255 { n as u8 } else { 255 }
+}
+
+// A number of four bytes, for a field of one. One that doesn't fit becomes 255 and not its low
+// byte, which the field might take.
+pub fn byte_at(s: &[u8], at: usize) -> u8
+    requires { ⌜ at + 4 ≤ length (now s) ⌝ }
+    ensures { λ r. ⌜ r ≡ min (fourAt (now (s .entry)) at) 255 ⌝ }
+{
+    to_byte(u32_at(s, at))
+}
+
+fn to_half(n: u32) -> i16
+    ensures { λ r. ⌜ r ≡ held16 n ⌝ }
+{
+    if n < 32768 {
+        return n as i16;
+    }
+    if n < 2147483648 {
+        return 32767;
+    }
+    if n < 4294934528 {
+        return -32768;
+    }
+    !((4294967295 - n) as i16)
+}
+
+// A signed number of four bytes, for a field of two. One that doesn't fit becomes the nearest that
+// does and not its low half, which the field might take.
+pub fn i16_at(s: &[u8], at: usize) -> i16
+    requires { ⌜ at + 4 ≤ length (now s) ⌝ }
+    ensures { λ r. ⌜ r ≡ held16 (fourAt (now (s .entry)) at) ⌝ }
+{
+    to_half(u32_at(s, at))
+}
