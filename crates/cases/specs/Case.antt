@@ -4,7 +4,7 @@ use mathlib.Core.Path.{_≡_}
 use mathlib.Core.Logic.{_⊎_}
 use mathlib.Core.List.{List}
 use lib.ListN.{take, drop}
-use Rattle.lines.specs.Little.{fourAt, held16}
+use Rattle.ground.specs.Little.{fourAt, held16}
 use Rattle.frame.specs.declared.description.Description.{Description}
 use Rattle.frame.specs.declared.record.Frame.{Frame}
 use Rattle.rows.specs.declared.setup.TileRange.{TileRange}

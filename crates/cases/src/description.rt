@@ -3,9 +3,9 @@
 use frame::description::Description;
 use frame::setup::Setup;
 use frame::setup::init_frame;
-use lines::read::byte_at;
-use lines::read::size_at;
-use lines::read::u32_at;
+use ground::read::byte_at;
+use ground::read::size_at;
+use ground::read::u32_at;
 ghost use mathlib.Core.Path.{_≡_};
 ghost use Prim.Native.Nat.{_+_, _≤_};
 ghost use lib.ListN.{length};

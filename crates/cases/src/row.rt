@@ -1,7 +1,7 @@
 // The numbers of row setup, behind the damage.
 use cells::pos::Pos4;
 use frame::record::Frame;
-use lines::read::size_at;
+use ground::read::size_at;
 use rows::setup::RowSetup;
 use rows::setup::TileRange;
 use rows::setup::tile_sbrow_init;

@@ -9,6 +9,7 @@ pub mod Tables
 pub mod Diffs
 pub mod Signs
 pub mod Bits
+pub mod Littles
 pub mod Windows
 pub mod Orders
 pub mod Belows

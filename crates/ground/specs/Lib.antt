@@ -5,5 +5,6 @@ pub mod Put
 pub mod Script
 pub mod Sign
 pub mod Twos
+pub mod Little
 pub mod Window
 pub mod Below

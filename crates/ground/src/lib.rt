@@ -1,5 +1,7 @@
 // What every later crate stands on: the laws of choices, answers, writes, signed numbers, tables
 // and windows (specs/, proofs/), and the few functions in which a signed number is taken apart or
 // put together.
+pub mod read;
 pub mod sign;
 pub mod twos;
+pub mod write;

@@ -2,4 +2,3 @@
 // the bytes of a case, and lines of words and decimal numbers.
 pub mod input;
 pub mod print;
-pub mod read;

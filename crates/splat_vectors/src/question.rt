@@ -2,7 +2,7 @@
 // record, and the length of the lent buffer.
 use cells::block::Block;
 use cells::pos::Pos4;
-use lines::read::size_at;
+use ground::read::size_at;
 use rows::setup::Tile;
 use rows::splat::Splat;
 use rows::table::Place;

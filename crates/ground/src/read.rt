@@ -2,7 +2,7 @@
 ghost use mathlib.Core.Path.{_≡_};
 ghost use Prim.Native.Nat.{_+_, _*_, _≤_, min};
 ghost use lib.ListN.{length};
-ghost use Rattle.lines.specs.Little.{four, fourAt, held16};
+ghost use Rattle.ground.specs.Little.{four, fourAt, held16};
 
 fn joined(a: u8, b: u8, c: u8, d: u8) -> u32
     ensures { λ r. ⌜ r ≡ four a b c d ⌝ }

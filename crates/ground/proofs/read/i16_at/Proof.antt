@@ -1,12 +1,12 @@
--- `lines::read::i16_at` meets its contract.
+-- `ground::read::i16_at` meets its contract.
 -- Assumes nothing.
 use mathlib.Core.Path.{ap, _∙_}
 use mir.Syntax.{w16}
 use borrow.Author.Needs.{needs}
 use Rattle.ground.proofs.Bits.{kept}
-use Rattle.lines.specs.Little.{held16}
-use Rattle.lines.proofs.read.i16_at.Statement.{statement}
-use Rattle.lines.proofs.read.i16_at.Tie as tie
+use Rattle.ground.specs.Little.{held16}
+use Rattle.ground.proofs.read.i16_at.Statement.{statement}
+use Rattle.ground.proofs.read.i16_at.Tie as tie
 
 u32-at-requires : tie.Need-u32-at-requires
 u32-at-requires c κs = search needs

@@ -1,4 +1,4 @@
--- `lines::read::to_half` meets its contract. Each law has n in one part of the 32 bits.
+-- `ground::read::to_half` meets its contract. Each law has n in one part of the 32 bits.
 -- Assumes nothing.
 use Prim.Native.Nat.{ℕ, suc, _-_, _≤_, _<_}
 use mathlib.Core.Path.{_≡_, sym, ap, _∙_}
@@ -11,11 +11,11 @@ use mir.Val.{toZ}
 use mir.Facts.{toZ-pos, toZ-neg}
 use borrow.Author.Needs.{needs}
 use borrow.Author.Tests.{lt-ltb, le-ltb}
 use Rattle.ground.specs.Pick.{pick}
 use Rattle.ground.specs.Sign.{clip3}
-use Rattle.lines.specs.Little.{held16}
-use Rattle.lines.proofs.read.to_half.Statement.{statement}
-use Rattle.lines.proofs.read.to_half.Tie as tie
+use Rattle.ground.specs.Little.{held16}
+use Rattle.ground.proofs.read.to_half.Statement.{statement}
+use Rattle.ground.proofs.read.to_half.Tie as tie
 
 -- the number that n holds, from 0 up and below 0
 from-0 : (n : ℕ) → n < 2147483648 → held16 n ≡ pick (ltb 32767 n) (pos 32767) (pos n)

@@ -1,0 +1,3 @@
+-- Laws of the layouts and of the answers.
+pub mod Pieces
+pub mod Lent

@@ -1,0 +1,23 @@
+-- `abi::frames::copy_start` meets its contract.
+-- Assumes nothing.
+use Rattle.abi.proofs.Lent.{replaced}
+use native.Mathlib.Omega.{arith}
+use lib.ListN.{length-take}
+use borrow.Author.Needs.{needs}
+use Rattle.abi.proofs.frames.copy_start.Statement.{statement}
+use Rattle.abi.proofs.frames.copy_start.Tie as tie
+
+slice-aggregate-copy : tie.Need-slice-aggregate-copy
+slice-aggregate-copy c = simp length-take (omega arith)
+
+copy-requires : tie.Need-copy-requires
+copy-requires c κs = simp length-take (omega arith)
+
+same-length : tie.Need-same-length
+same-length c = search needs
+
+returns : tie.Need-returns
+returns c = let b = c .before .before .before .before .before .before .before in replaced (b .args .s .now) (b .args .to .now) (b .pre) (c .before .before .copy .ensures .1)
+
+pub copy-start-spec : {M : Type 1} → statement M
+copy-start-spec = tie.close (tie.spec slice-aggregate-copy copy-requires same-length returns)

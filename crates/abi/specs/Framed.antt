@@ -1,0 +1,64 @@
+-- What the functions on frames answer, and what they write. A lent part that is too short is refused with 4, before anything else.
+use Prim.Native.Nat.{ℕ}
+use mathlib.Core.Bool.{Bool, _||_}
+use mathlib.Core.List.{List, [], _∷_}
+use lib.Dec.{ltb}
+use lib.ListN.{length, take}
+use Rattle.ground.specs.Pick.{pick}
+use Rattle.ground.specs.Answer.{accepted}
+use Rattle.ground.specs.Script.{Patch}
+use Rattle.ground.specs.Little.{fours}
+use Rattle.frame.specs.declared.description.Description.{Description}
+use Rattle.frame.specs.declared.record.Frame.{Frame}
+use Rattle.frame.specs.declared.record.Listed.{Listed}
+use Rattle.frame.specs.Description.{setupAnswer}
+use Rattle.frame.specs.Record.{frameOf, checkAnswer, listedOf}
+use Rattle.abi.specs.FrameBytes.{frameAt, frameBytes}
+
+-- bytes over the start of a lent part
+abbrev pub whole : List ℕ → List Patch
+whole bs = record { at = 0; bytes = bs } ∷ []
+
+-- a frame record, in bytes
+abbrev pub shortFrame : ℕ → Bool
+shortFrame n = ltb n 109
+
+-- the description whose hints are the first 7 and the first 49 bytes of what is lent
+unfoldable pub described : (width height sb128 hintBits currentHint : ℕ) (hints hintsByRef : List ℕ) (tileRows tileThreads frameThreads temporal : ℕ) → Description
+described width height sb128 hintBits currentHint hints hintsByRef tileRows tileThreads frameThreads temporal =
+    record {
+      width = width;
+      height = height;
+      sb128 = sb128;
+      «hint_bits» = hintBits;
+      «current_hint» = currentHint;
+      hints = take 7 hints;
+      «hints_by_ref» = take 49 hintsByRef;
+      «tile_rows» = tileRows;
+      «tile_threads» = tileThreads;
+      «frame_threads» = frameThreads;
+      temporal = temporal;
+    }
+
+-- by the lengths of the parts lent for hints, hints by reference, present flags and the frame
+unfoldable pub initLacks : (hints hintsByRef present frame : ℕ) → Bool
+initLacks hints hintsByRef present frame = ltb hints 7 || (ltb hintsByRef 49 || (ltb present 7 || shortFrame frame))
+
+unfoldable pub initAnswer : Bool → Description → List ℕ → ℕ
+initAnswer lacks d present = pick lacks 4 (setupAnswer d (take 7 present))
+
+unfoldable pub initScript : Bool → Description → List ℕ → List Patch
+initScript lacks d present = accepted (initAnswer lacks d present) (whole (frameBytes (frameOf d (take 7 present))))
+
+unfoldable pub checked : List ℕ → ℕ
+checked frame = pick (shortFrame (length frame)) 4 (checkAnswer (frameAt frame))
+
+-- saved cells, projected cells and records, four bytes each
+unfoldable pub listedBytes : Listed → List ℕ
+listedBytes r = fours (r .saved ∷ r .projected ∷ r .records ∷ [])
+
+unfoldable pub listedAnswer : List ℕ → ℕ → ℕ
+listedAnswer frame n = pick (shortFrame (length frame) || ltb n 12) 4 (listedOf (frameAt frame) .answer)
+
+unfoldable pub listedScript : List ℕ → ℕ → List Patch
+listedScript frame n = accepted (listedAnswer frame n) (whole (listedBytes (listedOf (frameAt frame))))

@@ -1,0 +1,4 @@
+-- What the exported functions answer and leave in the lent bytes.
+pub mod Leaf
+pub mod FrameBytes
+pub mod Framed

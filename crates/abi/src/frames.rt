@@ -1,0 +1,164 @@
+// Frame setup, the check of a record and the listed sizes, on lent bytes.
+use crate::frame_bytes::FRAME;
+use crate::frame_bytes::frame_at;
+use crate::frame_bytes::put_frame;
+use frame::description::Description;
+use frame::record::Listed;
+use frame::record::check;
+use frame::record::listed_sizes;
+use frame::setup::init_frame;
+use ground::write::put_sizes;
+ghost use mathlib.Core.Path.{_≡_};
+ghost use Prim.Native.Nat.{_≤_};
+ghost use lib.ListN.{length, take};
+ghost use Rattle.ground.specs.Answer.{accepted};
+ghost use Rattle.ground.specs.Put.{put};
+ghost use Rattle.ground.specs.Script.{run};
+ghost use Rattle.frame.specs.Description.{setupAnswer};
+ghost use Rattle.frame.specs.Record.{frameOf};
+ghost use Rattle.abi.specs.FrameBytes.{frameBytes};
+ghost use Rattle.abi.specs.Framed.{whole, described, initLacks, initAnswer, initScript, checked, listedBytes, listedAnswer, listedScript};
+
+const HINTS: usize = 7;
+
+const HINTS_BY_REF: usize = 49;
+
+const PRESENT: usize = 7;
+
+// Three numbers of four bytes.
+const LISTED: usize = 12;
+
+// As many bytes as there is space, from the start of s.
+fn copy_start(s: &[u8], to: &mut [u8])
+    requires { ⌜ length (now to) ≤ length (now s) ⌝ }
+    ensures { λ _. ⌜ now (to .exit) ≡ take (length (now (to .entry))) (now (s .entry)) ⌝ }
+{
+    let end = to.len();
+    bytes::copy(&s[..end], to);
+}
+
+fn seven(s: &[u8]) -> [u8; 7]
+    requires { ⌜ 7 ≤ length (now s) ⌝ }
+    ensures { λ r. ⌜ r ≡ take 7 (now (s .entry)) ⌝ }
+{
+    let mut to = [0u8; 7];
+    copy_start(s, &mut to);
+    to
+}
+
+fn forty_nine(s: &[u8]) -> [u8; 49]
+    requires { ⌜ 49 ≤ length (now s) ⌝ }
+    ensures { λ r. ⌜ r ≡ take 49 (now (s .entry)) ⌝ }
+{
+    let mut to = [0u8; 49];
+    copy_start(s, &mut to);
+    to
+}
+
+fn init_lacks(hints: usize, hints_by_ref: usize, present: usize, frame: usize) -> bool
+    ensures { λ r. ⌜ r ≡ initLacks hints «hints_by_ref» present frame ⌝ }
+{
+    if hints < HINTS {
+        return true;
+    }
+    if hints_by_ref < HINTS_BY_REF {
+        return true;
+    }
+    if present < PRESENT {
+        return true;
+    }
+    frame < FRAME
+}
+
+fn set_up(d: Description, present: [u8; 7], frame: &mut [u8]) -> u8
+    requires { ⌜ 109 ≤ length (now frame) ⌝ }
+    ensures { λ r. ⌜ r ≡ setupAnswer d present ⌝ }
+    ensures { λ _. ⌜ now (frame .exit) ≡ run (accepted (setupAnswer d present) (whole (frameBytes (frameOf d present)))) (now (frame .entry)) ⌝ }
+{
+    let made = init_frame(d, present);
+    let answer = made.answer;
+    if answer != 0 {
+        return answer;
+    }
+    let f = made.frame;
+    put_frame(frame, f);
+    answer
+}
+
+#[no_mangle]
+pub extern "C" fn jaskkovir_init_frame(
+    width: usize,
+    height: usize,
+    sb128: u8,
+    hint_bits: u32,
+    current_hint: u32,
+    hints: &[u8],
+    hints_by_ref: &[u8],
+    tile_rows: usize,
+    tile_threads: usize,
+    frame_threads: usize,
+    temporal: u8,
+    present: &[u8],
+    frame: &mut [u8],
+) -> u8
+    ensures { λ r. ⌜ r ≡ initAnswer (initLacks (length (now (hints .entry))) (length (now («hints_by_ref» .entry))) (length (now (present .entry))) (length (now (frame .entry)))) (described width height sb128 «hint_bits» «current_hint» (now (hints .entry)) (now («hints_by_ref» .entry)) «tile_rows» «tile_threads» «frame_threads» temporal) (now (present .entry)) ⌝ }
+    ensures { λ _. ⌜ now (frame .exit) ≡ run (initScript (initLacks (length (now (hints .entry))) (length (now («hints_by_ref» .entry))) (length (now (present .entry))) (length (now (frame .entry)))) (described width height sb128 «hint_bits» «current_hint» (now (hints .entry)) (now («hints_by_ref» .entry)) «tile_rows» «tile_threads» «frame_threads» temporal) (now (present .entry))) (now (frame .entry)) ⌝ }
+{
+    if init_lacks(hints.len(), hints_by_ref.len(), present.len(), frame.len()) {
+        return 4;
+    }
+    let hints = seven(hints);
+    let hints_by_ref = forty_nine(hints_by_ref);
+    let d = Description {
+        width,
+        height,
+        sb128,
+        hint_bits,
+        current_hint,
+        hints,
+        hints_by_ref,
+        tile_rows,
+        tile_threads,
+        frame_threads,
+        temporal,
+    };
+    set_up(d, seven(present), frame)
+}
+
+#[no_mangle]
+pub extern "C" fn jaskkovir_check(frame: &[u8]) -> u8
+    ensures { λ r. ⌜ r ≡ checked (now (frame .entry)) ⌝ }
+{
+    if frame.len() < FRAME {
+        return 4;
+    }
+    check(frame_at(frame))
+}
+
+fn put_listed(s: &mut [u8], r: Listed)
+    requires { ⌜ 12 ≤ length (now s) ⌝ }
+    ensures { λ _. ⌜ now (s .exit) ≡ put (now (s .entry)) 0 (listedBytes r) ⌝ }
+{
+    let numbers = [r.saved, r.projected, r.records];
+    put_sizes(s, 0, &numbers);
+}
+
+#[no_mangle]
+pub extern "C" fn jaskkovir_listed_sizes(frame: &[u8], sizes: &mut [u8]) -> u8
+    ensures { λ r. ⌜ r ≡ listedAnswer (now (frame .entry)) (length (now (sizes .entry))) ⌝ }
+    ensures { λ _. ⌜ now (sizes .exit) ≡ run (listedScript (now (frame .entry)) (length (now (sizes .entry)))) (now (sizes .entry)) ⌝ }
+{
+    if frame.len() < FRAME {
+        return 4;
+    }
+    if sizes.len() < LISTED {
+        return 4;
+    }
+    let listed = listed_sizes(frame_at(frame));
+    let answer = listed.answer;
+    if answer != 0 {
+        return answer;
+    }
+    put_listed(sizes, listed);
+    answer
+}

@@ -1,0 +1,44 @@
+// Vectors and hint distances. A vector comes back as one number: y in the low 16 bits, x above.
+use ground::twos::half_bits;
+use vector::hint::get_poc_diff;
+use vector::mv::Mv;
+use vector::precision::fix_mv_precision;
+use vector::projection::mv_projection;
+ghost use mathlib.Core.Path.{_≡_};
+ghost use Prim.Native.Nat.{_^_, _≤_, _<_};
+ghost use lib.IntN.{natAbs};
+ghost use Rattle.vector.specs.Vector.{Within, both};
+ghost use Rattle.vector.specs.Projection.{projected};
+ghost use Rattle.vector.specs.Precision.{lowered};
+ghost use Rattle.vector.specs.Hint.{distance};
+ghost use Rattle.abi.specs.Leaf.{mv, packed};
+
+fn pack(v: Mv) -> u32
+    ensures { λ r. ⌜ r ≡ packed v ⌝ }
+{
+    half_bits(v.y) as u32 + 65536 * (half_bits(v.x) as u32)
+}
+
+#[no_mangle]
+pub extern "C" fn jaskkovir_mv_projection(y: i16, x: i16, num: i16, den: u32) -> u32
+    requires { ⌜ Within 4095 (mv y x) × (natAbs num ≤ 31) × (0 < den) × (den < 32) ⌝ }
+    ensures { λ r. ⌜ r ≡ packed (both (projected num den) (mv y x)) ⌝ }
+{
+    pack(mv_projection(Mv { y, x }, num, den))
+}
+
+#[no_mangle]
+pub extern "C" fn jaskkovir_fix_mv_precision(y: i16, x: i16, integer: bool, hp: bool) -> u32
+    requires { ⌜ Within 16384 (mv y x) ⌝ }
+    ensures { λ r. ⌜ r ≡ packed (both (lowered integer hp) (mv y x)) ⌝ }
+{
+    pack(fix_mv_precision(Mv { y, x }, integer, hp))
+}
+
+#[no_mangle]
+pub extern "C" fn jaskkovir_get_poc_diff(bits: u32, a: u32, b: u32) -> i16
+    requires { ⌜ (bits ≤ 8) × (a < 2 ^ bits) × (b < 2 ^ bits) ⌝ }
+    ensures { λ r. ⌜ r ≡ distance bits a b ⌝ }
+{
+    get_poc_diff(bits, a, b)
+}

@@ -1,2 +1,0 @@
--- What the contracts of the shared functions are written with.
-pub mod Little
