@@ -110,6 +110,22 @@ pub fn setup(description: &Description, present: [bool; 7]) -> Outcome<Finished>
     outcome_of(|| Finished::from(&inputs.set_up()))
 }
 
+/// The same without the buffers, which are large for a large frame: `records` and `projection` are 0.
+pub fn setup_without_buffers(description: &Description, present: [bool; 7]) -> Outcome<Finished> {
+    let inputs = Inputs::new(description, present);
+    // Setup makes buffers only where the number of blocks changes. Were this another number than
+    // setup comes to, it would make them, and `n_blocks` would still be its own.
+    let tile_rows_apart = match description.tile_threads {
+        0 | 1 => 1,
+        _ => description.tile_rows,
+    };
+    let rf = RefMvsFrame {
+        n_blocks: 16 * description.width.div_ceil(128) * tile_rows_apart,
+        ..Default::default()
+    };
+    outcome_of(|| Finished::from(&inputs.set_up_on(rf)))
+}
+
 /// A description in the Rust's own types.
 pub(crate) struct Inputs {
     sequence: Rav1dSequenceHeader,
@@ -150,7 +166,10 @@ impl Inputs {
     }
 
     pub(crate) fn set_up(&self) -> RefMvsFrame {
-        let mut rf = RefMvsFrame::default();
+        self.set_up_on(RefMvsFrame::default())
+    }
+
+    fn set_up_on(&self, mut rf: RefMvsFrame) -> RefMvsFrame {
         rav1d_refmvs_init_frame(
             &mut rf,
             &self.sequence,
