@@ -2,7 +2,7 @@
 -- Assumes nothing.
 use mathlib.Core.Path.{_≡_, refl, sym, ap, _∙_}
 use mathlib.Core.Bool.{Bool, true, false, _||_}
-use mathlib.Core.List.{List, _++_, append-nil}
+use mathlib.Core.List.{List, [], _++_, append-nil}
 use Prim.Native.Nat.{ℕ, _≤_}
 use native.Mathlib.Omega.{arith}
 use lib.Dec.{ltb}
@@ -15,10 +15,15 @@ use Rattle.ground.specs.Put.{put}
 use Rattle.ground.specs.Script.{Patch, run}
 use Rattle.ground.proofs.Answers.{run-accepted, beside-accepted}
 use Rattle.frame.specs.declared.description.Description.{Description}
+use Rattle.frame.specs.declared.record.Frame.{Frame}
 use Rattle.frame.specs.declared.setup.Setup.{Setup}
 use Rattle.frame.specs.Description.{setupAnswer}
 use Rattle.frame.specs.Record.{frameOf, noFrame, setupOf}
+use Rattle.rows.specs.declared.setup.TileRange.{TileRange}
+use Rattle.rows.specs.declared.setup.RowSetup.{RowSetup}
+use Rattle.rows.specs.Setup.{tileOf, rowsAnswer, noTile, rowSetupOf}
 use Rattle.abi.specs.Framed.{whole, initLacks}
+use Rattle.abi.specs.Tiled.{splatLacks}
 
 -- neither of two tests
 pub neither : (s t : Bool) → (s || t) ≡ false → (s ≡ false) × (t ≡ false)
@@ -71,3 +76,36 @@ pub replaced : (s to : List ℕ) {r : List ℕ} → length to ≤ length s
 replaced s to h q =
     let n : length (take (length to) s) ≡ length to = simp length-take (omega arith) in
     q ∙ rw (take-length (take (length to) s), n, drop-length to, append-nil)
+
+-- what superblock-row setup returned
+pub row-answer : {r : RowSetup} (f : Frame) (col row : TileRange) (sby tile pass : ℕ) → r ≡ rowSetupOf f col row sby tile pass
+    → r .answer ≡ rowsAnswer f col row tile pass
+unfolding rowSetupOf
+row-answer f col row sby tile pass e = ap (λ (s : RowSetup). s .answer) e
+
+pub row-tile : {r : RowSetup} (f : Frame) (col row : TileRange) (sby tile pass : ℕ) → r ≡ rowSetupOf f col row sby tile pass
+    → rowsAnswer f col row tile pass ≡ 0 → r .tile ≡ tileOf f col row sby tile pass
+unfolding rowSetupOf
+row-tile f col row sby tile pass e z =
+    ap (λ (s : RowSetup). s .tile) e ∙ sym (beside-accepted (rowsAnswer f col row tile pass) (tileOf f col row sby tile pass) noTile z)
+
+-- a splat's parts
+pub record Room (f t b : ℕ) : Type 0 where
+  pub frame : 109 ≤ f
+  pub tile : 168 ≤ t
+  pub block : 12 ≤ b
+
+pub room : (f t b : ℕ) → splatLacks f t b ≡ false → Room f t b
+unfolding splatLacks
+room f t b e =
+    let q = neither (ltb f 109) _ e in
+    let r = neither (ltb t 168) _ (q .1) in
+    record { frame = ltb-false f 109 (q .0); tile = ltb-false t 168 (r .0); block = ltb-false b 12 (r .1) }
+
+pub unlaid : (t : Bool) (n : ℕ) (ps : List Patch) (l : List ℕ) → t ≡ true → (4 ≡ pick t 4 n) × (l ≡ run (pick t [] ps) l)
+unfolding run
+unlaid t n ps l e = rw e (refl, refl)
+
+pub laid : (t : Bool) (n : ℕ) (ps : List Patch) (l : List ℕ) {a : ℕ} {m : List ℕ} → t ≡ false → a ≡ n → m ≡ run ps l
+    → (a ≡ pick t 4 n) × (m ≡ run (pick t [] ps) l)
+laid t n ps l e p q = rw e (p, q)

@@ -1,3 +1,4 @@
 -- Laws of the layouts and of the answers.
 pub mod Pieces
 pub mod Lent
+pub mod Entries

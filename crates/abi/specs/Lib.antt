@@ -2,3 +2,5 @@
 pub mod Leaf
 pub mod FrameBytes
 pub mod Framed
+pub mod TileBytes
+pub mod Tiled

@@ -4,3 +4,5 @@
 mod frame_bytes;
 pub mod frames;
 pub mod leaves;
+mod tile_bytes;
+pub mod tiles;

@@ -1,0 +1,63 @@
+-- `abi::tile_bytes::put_table` meets its contract.
+-- Assumes nothing.
+use mathlib.Core.Path.{_≡_, refl, sym, ap, _∙_}
+use Prim.Native.Nat.{ℕ, _-_, _*_, _≤_}
+use native.Mathlib.Omega.{arith}
+use lib.ListN.{length}
+use Rattle.ground.specs.Put.{put}
+use Rattle.ground.specs.Little.{fourBytes, fours}
+use Rattle.rows.specs.Table.{tab}
+use Rattle.abi.specs.TileBytes.{entryNumber}
+use Rattle.abi.proofs.Entries.{table-on, table-done}
+use borrow.Author.Needs.{needs}
+use Rattle.abi.proofs.tile_bytes.put_table.Statement.{statement}
+use Rattle.abi.proofs.tile_bytes.put_table.Tie as tie
+
+abbrev Inv-loop : tie.InvT-loop
+Inv-loop s₀ rows e₀ s e = (e ≤ 37) × (length s ≡ length s₀) × (put s (4 * e) (fours (tab (entryNumber rows) e (37 - e))) ≡ put s₀ 0 (fours (tab (entryNumber rows) 0 37)))
+
+abbrev μ-loop : tie.MeasureT-loop
+μ-loop s₀ rows e₀ s e = 37 - e
+
+loop-holds : tie.Need-loop-holds Inv-loop μ-loop
+loop-holds c = (omega arith, refl, refl)
+
+mul-put-size : tie.Need-mul-put-size Inv-loop μ-loop
+mul-put-size c = search needs
+
+entry-number-requires : tie.Need-entry-number-requires Inv-loop μ-loop
+entry-number-requires c κs = search needs
+
+put-size-requires : tie.Need-put-size-requires Inv-loop μ-loop
+put-size-requires c κs = search needs
+
+add-e : tie.Need-add-e Inv-loop μ-loop
+add-e c = search needs
+
+loop-less : tie.Need-loop-less Inv-loop μ-loop
+loop-less c = search needs
+
+loop-again : tie.Need-loop-again Inv-loop μ-loop
+loop-again c = let l = c .before .before .before .before .before .before .loop in let a = c .before .before .before .before .before .before .before .before .args in (omega arith, search needs, table-on (l .s) _ (entryNumber (a .rows)) (l .e) (c .before .before .before .before .before .loop-test .taken) (c .before .before .put-size .ensures ∙ ap (λ (n : ℕ). put (l .s) (4 * l .e) (fourBytes n)) (c .before .before .before .entry-number .ensures)) ∙ l .inv .2)
+
+same-length : tie.Need-same-length Inv-loop μ-loop
+same-length c = search needs
+
+returns : tie.Need-returns Inv-loop μ-loop
+returns c = let l = c .before .loop in let a = c .before .before .before .args in sym (table-done (l .s) (4 * l .e) (entryNumber (a .rows)) (l .e) (c .loop-test .left)) ∙ l .inv .2
+
+pub put-table-spec : {M : Type 1} → statement M
+put-table-spec =
+    tie.close
+    (tie.spec
+    Inv-loop
+    μ-loop
+    loop-holds
+    mul-put-size
+    entry-number-requires
+    put-size-requires
+    add-e
+    loop-less
+    loop-again
+    same-length
+    returns)

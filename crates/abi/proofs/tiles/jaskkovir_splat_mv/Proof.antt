@@ -1,0 +1,48 @@
+-- `abi::tiles::jaskkovir_splat_mv` meets its contract.
+-- Assumes nothing.
+use mathlib.Core.Path.{sym, _∙_}
+use lib.ListN.{length}
+use Rattle.abi.specs.Tiled.{laidAnswer, laidScript}
+use Rattle.abi.proofs.Lent.{room, unlaid, laid}
+use borrow.Author.Needs.{needs}
+use Rattle.abi.proofs.tiles.jaskkovir_splat_mv.Statement.{statement}
+use Rattle.abi.proofs.tiles.jaskkovir_splat_mv.Tie as tie
+
+splat-lacks-requires : tie.Need-splat-lacks-requires
+splat-lacks-requires c κs = search needs
+
+returns : tie.Need-returns
+unfolding laidAnswer laidScript
+returns c = unlaid _ _ _ _ (sym (c .before .splat-lacks .ensures) ∙ c .if1 .taken)
+
+frame-at-requires : tie.Need-frame-at-requires
+frame-at-requires c κs = let a = c .before .before .before .before .before .before .args in let t = room (length (a .frame .now)) (length (a .tile .now)) (length (a .block .now)) (sym (c .before .splat-lacks .ensures) ∙ c .if1 .left) in t .frame
+
+tile-at-requires : tie.Need-tile-at-requires
+tile-at-requires c κs = let a = c .before .before .before .before .before .before .before .args in let t = room (length (a .frame .now)) (length (a .tile .now)) (length (a .block .now)) (sym (c .before .before .splat-lacks .ensures) ∙ c .before .if1 .left) in t .tile
+
+splat-of-requires : tie.Need-splat-of-requires
+splat-of-requires c κs = let a = c .before .before .before .before .before .before .before .before .args in let t = room (length (a .frame .now)) (length (a .tile .now)) (length (a .block .now)) (sym (c .before .before .before .splat-lacks .ensures) ∙ c .before .before .if1 .left) in t .block
+
+splat-mv-requires : tie.Need-splat-mv-requires
+splat-mv-requires c κs = search needs
+
+same-length : tie.Need-same-length
+same-length c = search needs
+
+returns-2 : tie.Need-returns-2
+unfolding laidAnswer laidScript
+returns-2 c = rw (← c .before .before .before .before .splat-of .ensures, ← c .before .before .before .before .before .tile-at .ensures, ← c .before .before .before .before .before .before .frame-at .ensures) (laid _ _ _ _ (sym (c .before .before .before .before .before .before .before .before .splat-lacks .ensures) ∙ c .before .before .before .before .before .before .before .if1 .left) (c .before .before .splat-mv .ensures .0) (c .before .before .splat-mv .ensures .1))
+
+pub jaskkovir-splat-mv-spec : {M : Type 1} → statement M
+jaskkovir-splat-mv-spec =
+    tie.close
+    (tie.spec
+    splat-lacks-requires
+    returns
+    frame-at-requires
+    tile-at-requires
+    splat-of-requires
+    splat-mv-requires
+    same-length
+    returns-2)

@@ -1,0 +1,130 @@
+// Superblock-row setup and splat, on lent bytes.
+use crate::frame_bytes::FRAME;
+use crate::frame_bytes::frame_at;
+use crate::tile_bytes::TILE;
+use crate::tile_bytes::put_tile;
+use crate::tile_bytes::tile_at;
+use cells::block::Block;
+use cells::pos::Pos4;
+use rows::setup::TileRange;
+use rows::setup::tile_sbrow_init;
+use rows::splat::Splat;
+use rows::splat::splat_mv;
+ghost use mathlib.Core.Path.{_≡_};
+ghost use Prim.Native.Nat.{_≤_};
+ghost use lib.ListN.{length};
+ghost use Rattle.ground.specs.Answer.{accepted};
+ghost use Rattle.ground.specs.Script.{run};
+ghost use Rattle.rows.specs.Setup.{tileOf, rowsAnswer};
+ghost use Rattle.abi.specs.FrameBytes.{frameAt};
+ghost use Rattle.abi.specs.TileBytes.{tileBytes};
+ghost use Rattle.abi.specs.Framed.{whole};
+ghost use Rattle.abi.specs.Tiled.{range, rowInitAnswer, rowInitScript, splatOf, splatLacks, laidAnswer, laidScript};
+
+const BLOCK: usize = 12;
+
+fn set_row(
+    frame: &[u8],
+    col: TileRange,
+    row: TileRange,
+    sby: usize,
+    tile_row: usize,
+    pass: usize,
+    tile: &mut [u8],
+) -> u8
+    requires { ⌜ (109 ≤ length (now frame)) × (168 ≤ length (now tile)) ⌝ }
+    ensures { λ r. ⌜ r ≡ rowsAnswer (frameAt (now (frame .entry))) col row «tile_row» pass ⌝ }
+    ensures { λ _. ⌜ now (tile .exit) ≡ run (accepted (rowsAnswer (frameAt (now (frame .entry))) col row «tile_row» pass) (whole (tileBytes (tileOf (frameAt (now (frame .entry))) col row sby «tile_row» pass)))) (now (tile .entry)) ⌝ }
+{
+    let made = tile_sbrow_init(frame_at(frame), col, row, sby, tile_row, pass);
+    let answer = made.answer;
+    if answer != 0 {
+        return answer;
+    }
+    let t = made.tile;
+    put_tile(tile, t);
+    answer
+}
+
+#[no_mangle]
+pub extern "C" fn jaskkovir_tile_sbrow_init(
+    frame: &[u8],
+    col_start: usize,
+    col_end: usize,
+    row_start: usize,
+    row_end: usize,
+    sby: usize,
+    tile_row: usize,
+    pass: usize,
+    tile: &mut [u8],
+) -> u8
+    ensures { λ r. ⌜ r ≡ rowInitAnswer (now (frame .entry)) (range «col_start» «col_end») (range «row_start» «row_end») «tile_row» pass (length (now (tile .entry))) ⌝ }
+    ensures { λ _. ⌜ now (tile .exit) ≡ run (rowInitScript (now (frame .entry)) (range «col_start» «col_end») (range «row_start» «row_end») sby «tile_row» pass (length (now (tile .entry)))) (now (tile .entry)) ⌝ }
+{
+    if frame.len() < FRAME {
+        return 4;
+    }
+    if tile.len() < TILE {
+        return 4;
+    }
+    let col = TileRange {
+        start: Pos4(col_start),
+        end: Pos4(col_end),
+    };
+    let row = TileRange {
+        start: Pos4(row_start),
+        end: Pos4(row_end),
+    };
+    set_row(frame, col, row, sby, tile_row, pass, tile)
+}
+
+fn splat_lacks(frame: usize, tile: usize, block: usize) -> bool
+    ensures { λ r. ⌜ r ≡ splatLacks frame tile block ⌝ }
+{
+    if frame < FRAME {
+        return true;
+    }
+    if tile < TILE {
+        return true;
+    }
+    block < BLOCK
+}
+
+fn splat_of(block: &[u8], y: usize, x: usize, w: usize, h: usize) -> Splat
+    requires { ⌜ 12 ≤ length (now block) ⌝ }
+    ensures { λ r. ⌜ r ≡ splatOf (now (block .entry)) y x w h ⌝ }
+{
+    let read = Block::read(block, 0);
+    Splat {
+        block: read,
+        y: Pos4(y),
+        x: Pos4(x),
+        w: Pos4(w),
+        h: Pos4(h),
+    }
+}
+
+#[no_mangle]
+pub extern "C" fn jaskkovir_splat_mv(
+    frame: &[u8],
+    tile: &[u8],
+    block: &[u8],
+    y: usize,
+    x: usize,
+    w: usize,
+    h: usize,
+    records: &mut [u8],
+) -> u8
+    ensures { λ r. ⌜ r ≡ laidAnswer (now (frame .entry)) (now (tile .entry)) (now (block .entry)) y x w h (length (now (records .entry))) ⌝ }
+    ensures { λ _. ⌜ now (records .exit) ≡ run (laidScript (now (frame .entry)) (now (tile .entry)) (now (block .entry)) y x w h (length (now (records .entry)))) (now (records .entry)) ⌝ }
+{
+    if splat_lacks(frame.len(), tile.len(), block.len()) {
+        return 4;
+    }
+    splat_mv(
+        frame_at(frame),
+        tile_at(tile),
+        splat_of(block, y, x, w, h),
+        records,
+    )
+}
