@@ -109,6 +109,56 @@ static void splat(const uint8_t *frame, const uint8_t *tile, uint8_t *records, s
            JASKKOVIR_BLOCK);
 }
 
+#ifdef JASKKOVIR_TMVS
+/* What the splatted block leaves in the saved field: row 4, column 6 is its first cell. */
+static void save(const uint8_t *frame, const uint8_t *records, size_t records_len, size_t cells)
+{
+    static const uint8_t cell[JASKKOVIR_CELL_LEN] = {5, 0, 0xFA, 0xFF, 1};
+    size_t len = cells * JASKKOVIR_CELL_LEN;
+    uint8_t *field = lend(cells, JASKKOVIR_CELL_LEN);
+    expect("save of rows 4 to 6, columns 6 to 8",
+           jaskkovir_save_tmvs(frame, JASKKOVIR_FRAME_LEN, 0, 6, 8, 4, 6, 0, 1, records,
+                               records_len, field, len),
+           JASKKOVIR_ACCEPTED);
+    expect("cell of row 4, column 6", memcmp(field + (4 * 16 + 6) * sizeof cell, cell, sizeof cell),
+           0);
+    expect("cell of row 3, column 6", field[(3 * 16 + 6) * sizeof cell], LENT);
+    free(field);
+}
+
+/* Document 01's worked example: row 2, column 3 of field 0 has the vector (0, 64) to reference 1,
+ * and it lands at row 2, column 2. */
+static void load(const uint8_t *frame, size_t saved, size_t projected)
+{
+    static const uint8_t moved[JASKKOVIR_CELL_LEN] = {0, 0, 64, 0, 1};
+    static const uint8_t cleared[JASKKOVIR_CELL_LEN] = {0, 0x80, 0, 0x80, LENT};
+    uint8_t *field = lend(saved, JASKKOVIR_CELL_LEN);
+    uint8_t *proj = lend(projected, JASKKOVIR_CELL_LEN);
+    memset(field, 0, saved * JASKKOVIR_CELL_LEN);
+    memcpy(field + (2 * 16 + 3) * sizeof moved, moved, sizeof moved);
+    expect("load of rows 0 to 8, columns 0 to 8",
+           jaskkovir_load_tmvs(frame, JASKKOVIR_FRAME_LEN, 0, 0, 8, 0, 8, present, sizeof present,
+                               field, saved * JASKKOVIR_CELL_LEN, NULL, 0, NULL, 0, NULL, 0, NULL,
+                               0, NULL, 0, NULL, 0, proj, projected * JASKKOVIR_CELL_LEN),
+           JASKKOVIR_ACCEPTED);
+    for (size_t row = 0; row < 8; row++)
+        for (size_t column = 0; column < 8; column++) {
+            const uint8_t *cell = proj + (row * 16 + column) * JASKKOVIR_CELL_LEN;
+            const uint8_t *wanted = row == 2 && column == 2 ? moved : cleared;
+            if (memcmp(cell, wanted, JASKKOVIR_CELL_LEN) != 0) {
+                fprintf(stderr, "the cell of row %zu, column %zu is another\n", row, column);
+                exit(EXIT_FAILURE);
+            }
+            if (wanted == moved)
+                printf("p %zu %zu %d %d %d\n", row, column, half(cell[0] | cell[1] << 8),
+                       half(cell[2] | cell[3] << 8), cell[4]);
+        }
+    expect("cell of row 8, column 0", proj[8 * 16 * JASKKOVIR_CELL_LEN], LENT);
+    free(field);
+    free(proj);
+}
+#endif
+
 int main(void)
 {
     uint8_t frame[JASKKOVIR_FRAME_LEN], tile[JASKKOVIR_TILE_LEN], sizes[JASKKOVIR_LISTED_LEN];
@@ -118,6 +168,10 @@ int main(void)
     size_t count = number(sizes + 8);
     uint8_t *records = lend(count, JASKKOVIR_RECORD_LEN);
     splat(frame, tile, records, count * JASKKOVIR_RECORD_LEN);
+#ifdef JASKKOVIR_TMVS
+    save(frame, records, count * JASKKOVIR_RECORD_LEN, number(sizes));
+    load(frame, number(sizes), number(sizes + 4));
+#endif
     free(records);
     return EXIT_SUCCESS;
 }

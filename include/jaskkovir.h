@@ -20,6 +20,10 @@
 #include <stddef.h>
 #include <stdint.h>
 
+#if SIZE_MAX != UINT64_MAX
+#error "the library has lengths of 64 bits"
+#endif
+
 #ifdef __cplusplus
 extern "C" {
 #endif
@@ -122,6 +126,30 @@ uint8_t jaskkovir_tile_sbrow_init(const uint8_t *frame, size_t frame_len, size_t
 uint8_t jaskkovir_splat_mv(const uint8_t *frame, size_t frame_len, const uint8_t *tile,
                            size_t tile_len, const uint8_t *block, size_t block_len, size_t y,
                            size_t x, size_t w, size_t h, uint8_t *records, size_t records_len);
+
+#ifdef JASKKOVIR_TMVS
+/* Save: the cells of rows top..bottom and columns left..right (8-sample units, cut to the frame)
+ * from the records that lie over them. The row table is that of the tile row, the superblock row sby
+ * and the pass, 1 or 2.
+ * Answers 0, 1, 3, 4, 6, 8, 9 or 12. Writes cells of field, which holds the listed saved cells. */
+uint8_t jaskkovir_save_tmvs(const uint8_t *frame, size_t frame_len, size_t tile_row, size_t left,
+                            size_t right, size_t top, size_t bottom, size_t sby, size_t pass,
+                            const uint8_t *records, size_t records_len, uint8_t *field,
+                            size_t field_len);
+
+/* Load: clears the window of rows top..bottom and columns left..right (8-sample units, rows cut to
+ * the frame) in the tile row's part of the projection, and projects the motion of the used
+ * references' fields f0..f6 into it. Byte i of present is 1 where field i is lent; another field
+ * isn't looked at.
+ * Answers 0, 1, 3, 4, 5 or 7. Writes cells of proj, which holds the listed projected cells. */
+uint8_t jaskkovir_load_tmvs(const uint8_t *frame, size_t frame_len, size_t tile_row, size_t left,
+                            size_t right, size_t top, size_t bottom, const uint8_t *present,
+                            size_t present_len, const uint8_t *f0, size_t f0_len,
+                            const uint8_t *f1, size_t f1_len, const uint8_t *f2, size_t f2_len,
+                            const uint8_t *f3, size_t f3_len, const uint8_t *f4, size_t f4_len,
+                            const uint8_t *f5, size_t f5_len, const uint8_t *f6, size_t f6_len,
+                            uint8_t *proj, size_t proj_len);
+#endif
 
 #ifdef __cplusplus
 }

@@ -1,9 +1,11 @@
 //! Random frames: what setup is asked, and finished records.
 
+use crate::codec;
 use jaskkovir::calls;
 use jaskkovir::Frame;
 use oracle::frame;
 use oracle::frame::Description;
+use oracle::paper;
 use oracle::paper::FrameRecord;
 use oracle::record::frame_record;
 use shared::split_mix::SplitMix64;
@@ -204,10 +206,16 @@ pub fn damage(random: &mut SplitMix64, bytes: &mut [u8; Frame::LEN]) {
     }
 }
 
+/// Changes bytes of a record until it is refused.
+pub fn ruin(random: &mut SplitMix64, bytes: &mut [u8; Frame::LEN]) {
+    while paper::record_answer(&codec::frame_at(bytes)) == 0 {
+        damage(random, bytes);
+    }
+}
+
 #[cfg(test)]
 mod tests {
     use super::*;
-    use oracle::paper;
 
     #[test]
     fn questions_and_records_are_accepted() {

@@ -13,6 +13,8 @@ pub struct Tally {
     /// Accepted cases that the Rust can't be asked.
     paper_alone: u64,
     differences: u64,
+    /// What else is to be told of the cases.
+    pub note: String,
     /// With a measure of their size, by which they stand in order.
     smallest: Vec<(u64, String)>,
 }
@@ -69,6 +71,9 @@ impl Display for Tally {
         }
         if self.paper_alone > 0 {
             write!(f, ", by the paper alone {}", self.paper_alone)?;
+        }
+        if !self.note.is_empty() {
+            write!(f, ", {}", self.note)?;
         }
         write!(f, ", differences {}", self.differences)
     }

@@ -10,6 +10,12 @@ use jaskkovir::calls::Block;
 use jaskkovir::calls::Description;
 use jaskkovir::calls::Row;
 use jaskkovir::refusal::BUFFER;
+#[cfg(feature = "tmvs")]
+use jaskkovir::tmvs;
+#[cfg(feature = "tmvs")]
+use jaskkovir::tmvs::Saving;
+#[cfg(feature = "tmvs")]
+use jaskkovir::tmvs::Window;
 use jaskkovir::Frame;
 use jaskkovir::Listed;
 use jaskkovir::Tile;
@@ -24,6 +30,10 @@ pub fn compare(options: &Options) -> Result<Tally, String> {
         listed_sizes(&mut random, &mut tally);
         tile_sbrow_init(&mut random, &mut tally);
         splat_mv(&mut random, &mut tally);
+        #[cfg(feature = "tmvs")]
+        save_tmvs(&mut random, &mut tally);
+        #[cfg(feature = "tmvs")]
+        load_tmvs(&mut random, &mut tally);
     }
     Ok(tally)
 }
@@ -141,5 +151,48 @@ fn splat_mv(random: &mut SplitMix64, tally: &mut Tally) {
             &mut records,
         );
         told(tally, "splat_mv", &lens, answer, records == lent);
+    }
+}
+
+#[cfg(feature = "tmvs")]
+fn save_tmvs(random: &mut SplitMix64, tally: &mut Tally) {
+    let [superblock_row, pass] = numbers(random);
+    let saving = Saving {
+        window: window(random),
+        superblock_row,
+        pass,
+    };
+    let (frame, records) = (frame(random), random.bytes::<1000>());
+    let lent: [u8; 200] = random.bytes();
+    for lens in short_lens([Frame::LEN]) {
+        let mut field = lent;
+        let answer = tmvs::save_tmvs(&frame[..lens[0]], &saving, &records, &mut field);
+        told(tally, "save_tmvs", &lens, answer, field == lent);
+    }
+}
+
+#[cfg(feature = "tmvs")]
+fn load_tmvs(random: &mut SplitMix64, tally: &mut Tally) {
+    let (frame, window) = (frame(random), window(random));
+    let (present, field) = (random.bytes::<7>(), random.bytes::<200>());
+    let lent: [u8; 200] = random.bytes();
+    for lens in short_lens([Frame::LEN, present.len()]) {
+        let mut projection = lent;
+        let (frame, present) = (&frame[..lens[0]], &present[..lens[1]]);
+        let fields = [field.as_slice(); 7];
+        let answer = tmvs::load_tmvs(frame, &window, present, fields, &mut projection);
+        told(tally, "load_tmvs", &lens, answer, projection == lent);
+    }
+}
+
+#[cfg(feature = "tmvs")]
+fn window(random: &mut SplitMix64) -> Window {
+    let [tile_row, left, right, top, bottom] = numbers(random);
+    Window {
+        tile_row,
+        left,
+        right,
+        top,
+        bottom,
     }
 }

@@ -190,7 +190,7 @@ impl Run {
     fn question(&self, random: &mut SplitMix64) -> Question {
         let mut frame = self.frame;
         if random.below(100) == 0 {
-            frames::damage(random, &mut frame);
+            frames::ruin(random, &mut frame);
         }
         let mut bytes = records::any(random);
         if random.below(30) == 0 {
