@@ -29,6 +29,7 @@ pub struct Stream {
 }
 
 /// The frame that is being decoded.
+#[cfg_attr(not(feature = "tmvs"), allow(dead_code))]
 pub struct Now {
     pub number: u16,
     pub record: FrameRecord,

@@ -126,6 +126,29 @@ pub fn setup_without_buffers(description: &Description, present: [bool; 7]) -> O
     outcome_of(|| Finished::from(&inputs.set_up_on(rf)))
 }
 
+/// A setup with all that it needs in the Rust's own types, so that the call alone can be timed.
+pub struct Prepared {
+    inputs: Inputs,
+    rf: RefMvsFrame,
+}
+
+impl Prepared {
+    pub fn new(description: &Description, present: [bool; 7]) -> Self {
+        let inputs = Inputs::new(description, present);
+        let rf = inputs.set_up();
+        Self { inputs, rf }
+    }
+
+    /// `rav1d_refmvs_init_frame`, once, on the record of the call before. Its buffers are there.
+    pub fn call(&mut self) {
+        self.inputs.call(&mut self.rf);
+    }
+
+    pub fn finished(&self) -> Finished {
+        (&self.rf).into()
+    }
+}
+
 /// A description in the Rust's own types.
 pub(crate) struct Inputs {
     sequence: Rav1dSequenceHeader,
@@ -170,8 +193,13 @@ impl Inputs {
     }
 
     fn set_up_on(&self, mut rf: RefMvsFrame) -> RefMvsFrame {
+        self.call(&mut rf);
+        rf
+    }
+
+    fn call(&self, rf: &mut RefMvsFrame) {
         rav1d_refmvs_init_frame(
-            &mut rf,
+            rf,
             &self.sequence,
             &self.header,
             &self.hints,
@@ -181,7 +209,6 @@ impl Inputs {
             self.frame_threads,
         )
         .unwrap();
-        rf
     }
 }
 

@@ -95,6 +95,9 @@ pub fn setup(description: &Description, place: &Place) -> Outcome<Table> {
     outcome_of(|| tile(&inputs.set_up(), numbers).into())
 }
 
+/// A tile in the Rust's own type.
+pub struct Tile(RefmvsTile);
+
 /// A frame in the Rust's own type, for many rows.
 pub struct Prepared(RefMvsFrame);
 
@@ -106,8 +109,12 @@ impl Prepared {
 
     /// `rav1d_refmvs_tile_sbrow_init`. The numbers must fit the types of the Rust.
     pub fn setup(&self, place: &Place) -> Outcome<Table> {
-        let numbers = place.numbers().map(window::real);
-        outcome_of(|| tile(&self.0, numbers).into())
+        outcome_of(|| Table::from(self.call(place).0))
+    }
+
+    /// The same, left in the Rust's own type. It panics where the Rust does.
+    pub fn call(&self, place: &Place) -> Tile {
+        Tile(tile(&self.0, place.numbers().map(window::real)))
     }
 }
 

@@ -1,0 +1,61 @@
+use std::fmt;
+use std::fmt::Display;
+use std::fmt::Formatter;
+use std::time::Duration;
+use std::time::Instant;
+
+pub const ROUNDS: usize = 400;
+
+/// The best times of both sides for one unit of work.
+pub struct Timing {
+    name: String,
+    unit: &'static str,
+    ours: f64,
+    rusts: f64,
+}
+
+impl Timing {
+    /// Runs both by turns. Each run does this many units of work.
+    pub fn new(
+        name: impl Into<String>,
+        (units, unit): (usize, &'static str),
+        mut ours: impl FnMut(),
+        mut rusts: impl FnMut(),
+    ) -> Self {
+        let mut best = [Duration::MAX; 2];
+        for round in 0..ROUNDS {
+            // Whichever comes second may find things in the cache.
+            for side in [round % 2, 1 - round % 2] {
+                let start = Instant::now();
+                match side {
+                    0 => ours(),
+                    _ => rusts(),
+                }
+                best[side] = best[side].min(start.elapsed());
+            }
+        }
+        let [ours, rusts] = best.map(|time| time.as_nanos() as f64 / units as f64);
+        Self {
+            name: name.into(),
+            unit,
+            ours,
+            rusts,
+        }
+    }
+}
+
+impl Display for Timing {
+    fn fmt(&self, f: &mut Formatter) -> fmt::Result {
+        let Self {
+            name,
+            unit,
+            ours,
+            rusts,
+        } = self;
+        let ratio = ours / rusts;
+        write!(
+            f,
+            "| {name} | {unit} | {ours:.1} | {rusts:.1} | {ratio:.2} |"
+        )
+    }
+}
