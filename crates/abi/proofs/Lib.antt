@@ -2,3 +2,6 @@
 pub mod Pieces
 pub mod Lent
 pub mod Entries
+pub mod Places
+pub mod KeptFrame
+pub mod KeptTile

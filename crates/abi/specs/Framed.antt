@@ -9,7 +9,6 @@ use Rattle.ground.specs.Answer.{accepted}
 use Rattle.ground.specs.Script.{Patch}
 use Rattle.ground.specs.Little.{fours}
 use Rattle.frame.specs.declared.description.Description.{Description}
-use Rattle.frame.specs.declared.record.Frame.{Frame}
 use Rattle.frame.specs.declared.record.Listed.{Listed}
 use Rattle.frame.specs.Description.{setupAnswer}
 use Rattle.frame.specs.Record.{frameOf, checkAnswer, listedOf}

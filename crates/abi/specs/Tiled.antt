@@ -8,7 +8,6 @@ use Rattle.ground.specs.Pick.{pick}
 use Rattle.ground.specs.Answer.{accepted}
 use Rattle.ground.specs.Script.{Patch}
 use Rattle.cells.specs.Block.{blockAt}
-use Rattle.frame.specs.declared.record.Frame.{Frame}
 use Rattle.rows.specs.declared.setup.TileRange.{TileRange}
 use Rattle.rows.specs.declared.splat.Splat.{Splat}
 use Rattle.rows.specs.Setup.{tileOf, rowsAnswer}

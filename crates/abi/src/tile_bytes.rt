@@ -9,10 +9,10 @@ use rows::setup::TileRange;
 use rows::table::Place;
 use rows::table::RowEntry;
 ghost use mathlib.Core.Path.{_≡_};
-ghost use Prim.Native.Nat.{_+_, _*_, _≤_, _<_, min};
+ghost use Prim.Native.Nat.{_+_, _*_, _≤_, min};
 ghost use lib.ListN.{length};
 ghost use Rattle.ground.specs.Put.{put};
-ghost use Rattle.ground.specs.Little.{fourAt, fours};
+ghost use Rattle.ground.specs.Little.{fours};
 ghost use Rattle.rows.specs.Table.{tab};
 ghost use Rattle.abi.specs.TileBytes.{absentMark, placeOf, placeNumber, entryIn, rangeAt, tileAt, entryNumber, boundNumbers, tileBytes};
 
@@ -84,22 +84,15 @@ fn place_number(p: Place) -> usize
     }
 }
 
-fn entry_number(rows: [RowEntry; 37], e: usize) -> usize
-    requires { ⌜ e < 37 ⌝ }
-    ensures { λ r. ⌜ r ≡ entryNumber rows e ⌝ }
-{
-    let entry = rows[e];
-    let p = entry.at;
-    place_number(p)
-}
-
 fn put_table(s: &mut [u8], rows: [RowEntry; 37])
     requires { ⌜ 168 ≤ length (now s) ⌝ }
     ensures { λ _. ⌜ now (s .exit) ≡ put (now (s .entry)) 0 (fours (tab (entryNumber rows) 0 37)) ⌝ }
 {
     let mut e: usize = 0;
     while e < 37 {
-        put_size(s, 4 * e, entry_number(rows, e));
+        let entry = rows[e];
+        let p = entry.at;
+        put_size(s, 4 * e, place_number(p));
         e += 1;
     }
 }

@@ -1,8 +1,8 @@
 -- A number of four bytes that was laid down, and read again.
 -- Assumes nothing.
-use mathlib.Core.Path.{_≡_, refl, sym, ap, _∙_}
-use mathlib.Core.List.{List, [], _∷_}
-use Prim.Native.Nat.{ℕ, zero, suc, _+_, _*_, _/_, _%_, _^_, _≤_, _<_}
+use mathlib.Core.Path.{_≡_, sym, ap, _∙_}
+use mathlib.Core.List.{List}
+use Prim.Native.Nat.{ℕ, suc, _+_, _*_, _/_, _%_, _^_, _≤_, _<_}
 use native.Mathlib.Nat.{add-zero, div-div-eq-div-mul, div-add-mod'}
 use native.Mathlib.Numerals.{add-one}
 use native.Mathlib.Omega.{arith}
@@ -10,7 +10,7 @@ use lib.ListN.{length, getD, set, drop}
 use lib.Seq.{drop-cons, drop-length}
 use Rattle.ground.specs.Put.{put}
 use Rattle.ground.specs.Little.{four, fourAt, fourBytes, fours}
-use Rattle.ground.proofs.Puts.{put-append, put-length, put-outside, put-inside}
+use Rattle.ground.proofs.Puts.{put-append, put-inside}
 
 -- a number by its bytes: q, r and s are what is left above each
 by-bytes : (n q r s a b c d : ℕ) → q * 256 + a ≡ n → r * 256 + b ≡ q → s * 256 + c ≡ r → s ≡ d → four a b c d ≡ n

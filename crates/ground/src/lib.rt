@@ -1,6 +1,6 @@
 // What every later crate stands on: the laws of choices, answers, writes, signed numbers, tables
-// and windows (specs/, proofs/), and the few functions in which a signed number is taken apart or
-// put together.
+// and windows (specs/, proofs/), the few functions in which a signed number is taken apart or put
+// together, and numbers out of bytes and into them.
 pub mod read;
 pub mod sign;
 pub mod twos;

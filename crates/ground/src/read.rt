@@ -1,4 +1,4 @@
-// Numbers out of the bytes of a case, the low byte first.
+// Numbers out of lent bytes, the low byte first.
 ghost use mathlib.Core.Path.{_≡_};
 ghost use Prim.Native.Nat.{_+_, _*_, _≤_, min};
 ghost use lib.ListN.{length};

@@ -55,7 +55,7 @@ pub even-table : (n : ℕ) (odd : Bool) (first stride : ℕ) {off : ℕ} {p : Li
 even-table n odd first stride s o e₁ e₂ = rw (e₂, e₁, o, even-rows n first stride (sides n s))
 
 -- an entry of a table that is made by a rule
-tab-at : {A : Type 0} (f : ℕ → A) (d : A) (from n k : ℕ) → k < n → getD (tables.tab f from n) k d ≡ f (from + k)
+pub tab-at : {A : Type 0} (f : ℕ → A) (d : A) (from n k : ℕ) → k < n → getD (tables.tab f from n) k d ≡ f (from + k)
 unfolding tables.tab
 tab-at f d from zero k h = absurd (lt-irrefl k (omega arith))
 tab-at f d from (suc n) zero h = ap f (omega arith)

@@ -5,7 +5,7 @@ use Rattle.abi.specs.FrameBytes.{curOf, skippedMark}
 use mir.Syntax.{w16}
 use mir.Facts.{toZ-ofZ}
 use borrow.Author.Tests.{eq-eqb, ne-eqb}
-use Rattle.ground.proofs.Bits.{same, bits-eqZ}
+use Rattle.ground.proofs.Bits.{bits-eqZ}
 use Rattle.abi.proofs.frame_bytes.cur_of.Statement.{statement}
 use Rattle.abi.proofs.frame_bytes.cur_of.Tie as tie
 

@@ -22,11 +22,17 @@ abbrev μ-loop : tie.MeasureT-loop
 loop-holds : tie.Need-loop-holds Inv-loop μ-loop
 loop-holds c = (omega arith, refl, refl)
 
+mul-entry : tie.Need-mul-entry Inv-loop μ-loop
+mul-entry c = search needs
+
+array-copy-out-entry : tie.Need-array-copy-out-entry Inv-loop μ-loop
+array-copy-out-entry c = search needs
+
 mul-put-size : tie.Need-mul-put-size Inv-loop μ-loop
 mul-put-size c = search needs
 
-entry-number-requires : tie.Need-entry-number-requires Inv-loop μ-loop
-entry-number-requires c κs = search needs
+place-number-requires : tie.Need-place-number-requires Inv-loop μ-loop
+place-number-requires c κs = search needs
 
 put-size-requires : tie.Need-put-size-requires Inv-loop μ-loop
 put-size-requires c κs = search needs
@@ -38,13 +44,14 @@ loop-less : tie.Need-loop-less Inv-loop μ-loop
 loop-less c = search needs
 
 loop-again : tie.Need-loop-again Inv-loop μ-loop
-loop-again c = let l = c .before .before .before .before .before .before .loop in let a = c .before .before .before .before .before .before .before .before .args in (omega arith, search needs, table-on (l .s) _ (entryNumber (a .rows)) (l .e) (c .before .before .before .before .before .loop-test .taken) (c .before .before .put-size .ensures ∙ ap (λ (n : ℕ). put (l .s) (4 * l .e) (fourBytes n)) (c .before .before .before .entry-number .ensures)) ∙ l .inv .2)
+unfolding entryNumber
+loop-again c = let l = c .before .before .before .before .before .before .before .loop in let a = c .before .before .before .before .before .before .before .before .before .args in (omega arith, search needs, table-on (l .s) _ (entryNumber (a .t2)) (l .e) (c .before .before .before .before .before .before .loop-test .taken) (c .before .before .put-size .ensures ∙ ap (λ (n : ℕ). put (l .s) (4 * l .e) (fourBytes n)) (c .before .before .before .place-number .ensures)) ∙ l .inv .2)
 
 same-length : tie.Need-same-length Inv-loop μ-loop
 same-length c = search needs
 
 returns : tie.Need-returns Inv-loop μ-loop
-returns c = let l = c .before .loop in let a = c .before .before .before .args in sym (table-done (l .s) (4 * l .e) (entryNumber (a .rows)) (l .e) (c .loop-test .left)) ∙ l .inv .2
+returns c = let l = c .before .loop in let a = c .before .before .before .args in sym (table-done (l .s) (4 * l .e) (entryNumber (a .t2)) (l .e) (c .loop-test .left)) ∙ l .inv .2
 
 pub put-table-spec : {M : Type 1} → statement M
 put-table-spec =
@@ -53,8 +60,10 @@ put-table-spec =
     Inv-loop
     μ-loop
     loop-holds
+    mul-entry
+    array-copy-out-entry
     mul-put-size
-    entry-number-requires
+    place-number-requires
     put-size-requires
     add-e
     loop-less

@@ -1,13 +1,11 @@
 -- `ground::write::put_bytes` meets its contract.
 -- Assumes nothing.
-use mathlib.Core.Path.{_≡_, refl, sym, ap, _∙_}
-use Prim.Native.Nat.{ℕ, _+_, _*_, _-_, _≤_}
+use mathlib.Core.Path.{_≡_, sym, _∙_}
+use Prim.Native.Nat.{_+_, _-_, _≤_}
 use native.Mathlib.Nat.{add-zero}
-use native.Mathlib.Omega.{arith}
-use lib.ListN.{length, length-set, drop}
+use lib.ListN.{length, drop}
 use Rattle.ground.specs.Put.{put}
-use Rattle.ground.specs.Little.{fours}
-use Rattle.ground.proofs.Littles.{fours-on, fours-done, bytes-on, bytes-done}
+use Rattle.ground.proofs.Littles.{bytes-on, bytes-done}
 use borrow.Author.Needs.{needs}
 use Rattle.ground.proofs.write.put_bytes.Statement.{statement}
 use Rattle.ground.proofs.write.put_bytes.Tie as tie
