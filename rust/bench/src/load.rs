@@ -42,25 +42,12 @@ fn filled(name: &str, fill: &Fill) -> Timing {
     let listed = frame.listed_sizes().expect("the frame is accepted");
     let mut projection = inputs::lent(listed.projected, CELL_LEN);
     let Frame(frame) = frame;
-    let nowhere = oracle::Window {
-        tile_row: 0,
-        col_start: 0,
-        col_end: 0,
-        row_start: 0,
-        row_end: 0,
-    };
-    let lent = fields.map(Some);
-    let mut rust = Prepared::new(&inputs::FRAME, [true; 7], &nowhere, lent, &projection);
+    let (first, lent) = (rust_window(0), fields.map(Some));
+    let mut rust = Prepared::new(&inputs::FRAME, [true; 7], &first, lent, &projection);
     let tops = || (0..ROWS).step_by(8);
     let ours = || {
         for top in tops() {
-            let window = Window {
-                tile_row: 0,
-                left: 0,
-                right: COLUMNS,
-                top,
-                bottom: top + 8,
-            };
+            let window = window(top);
             let present = black_box(&inputs::PRESENT);
             let answer = tmvs::load_tmvs(&frame, &window, present, fields, &mut projection);
             assert_eq!(answer, 0);
@@ -68,16 +55,33 @@ fn filled(name: &str, fill: &Fill) -> Timing {
     };
     let rusts = || {
         for top in tops() {
-            rust.set_window(&oracle::Window {
-                col_end: COLUMNS as u32,
-                row_start: top as u32,
-                row_end: top as u32 + 8,
-                ..nowhere
-            });
+            rust.set_window(&rust_window(top));
             black_box(&rust).call();
         }
     };
     Timing::new(name, (ROWS * COLUMNS, "cell"), ours, rusts)
+}
+
+/// A superblock row, over the frame's width.
+fn window(top: usize) -> Window {
+    Window {
+        tile_row: 0,
+        left: 0,
+        right: COLUMNS,
+        top,
+        bottom: top + 8,
+    }
+}
+
+/// The same for the Rust.
+fn rust_window(top: usize) -> oracle::Window {
+    oracle::Window {
+        tile_row: 0,
+        col_start: 0,
+        col_end: COLUMNS as u32,
+        row_start: top as u32,
+        row_end: top as u32 + 8,
+    }
 }
 
 fn field(random: &mut SplitMix64, fill: &Fill) -> Vec<u8> {

@@ -36,18 +36,20 @@ pub fn compare(options: &Options) -> Result<Tally, String> {
             counts[usize::from(event.letter)] += 1;
         }
     }
-    let of = |letter: u8| counts[usize::from(letter)];
-    tally.note = format!(
-        "{} streams: {} frames, {} rows, {} splats, {} loads, {} saves",
-        files.len(),
-        of(b'F'),
-        of(b'R'),
-        of(b'S'),
-        of(b'L'),
-        of(b'V')
-    );
-    if cfg!(not(feature = "tmvs")) {
-        tally.note += " (loads and saves not run)";
-    }
+    tally.note = note(files.len(), counts);
     Ok(tally)
+}
+
+/// How many events of each kind there were.
+fn note(streams: usize, counts: [u64; 256]) -> String {
+    let [frames, rows, splats, loads, saves] = b"FRSLV".map(|it| counts[usize::from(it)]);
+    let run = if cfg!(feature = "tmvs") {
+        ""
+    } else {
+        " (not run)"
+    };
+    format!(
+        "{streams} streams: {frames} frames, {rows} rows, {splats} splats, {loads} loads{run}, \
+         {saves} saves{run}"
+    )
 }

@@ -232,24 +232,7 @@ impl Run {
             height: 1 + random.below(side - y % side),
         };
         if random.below(20) == 0 {
-            let edges = [
-                0,
-                1,
-                32,
-                33,
-                64,
-                1 << 32,
-                (1 << 32) + 1,
-                usize::MAX,
-                1 << 63,
-            ];
-            let number = match random.below(4) {
-                0 => &mut block.y,
-                1 => &mut block.x,
-                2 => &mut block.width,
-                _ => &mut block.height,
-            };
-            *number = edges[random.below(edges.len())];
+            move_to_edge(random, &mut block);
         }
         block
     }
@@ -268,6 +251,28 @@ impl Run {
             )
         });
     }
+}
+
+/// Moves one number of a block to a limit, or past it.
+fn move_to_edge(random: &mut SplitMix64, block: &mut Block) {
+    let edges = [
+        0,
+        1,
+        32,
+        33,
+        64,
+        1 << 32,
+        (1 << 32) + 1,
+        usize::MAX,
+        1 << 63,
+    ];
+    let number = match random.below(4) {
+        0 => &mut block.y,
+        1 => &mut block.x,
+        2 => &mut block.width,
+        _ => &mut block.height,
+    };
+    *number = edges[random.below(edges.len())];
 }
 
 /// A number from start on and below the end, if that is above.
