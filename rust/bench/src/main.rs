@@ -17,9 +17,9 @@ use timing::Timing;
 
 fn main() {
     println!(
-        "1920 x 1080, three references, one thread; best of {} rounds, by turns. Overflow checks of \
-         the Rust: {}.\n",
-        timing::ROUNDS,
+        "1920 x 1080, three references, one thread; best rounds of {:?} each, by turns. Overflow \
+         checks of the Rust: {}.\n",
+        timing::SPAN,
         if overflow_is_checked() { "on" } else { "off" }
     );
     println!("| what | unit | ours, ns | the Rust, ns | ours / the Rust |");

@@ -4,7 +4,8 @@ use std::fmt::Formatter;
 use std::time::Duration;
 use std::time::Instant;
 
-pub const ROUNDS: usize = 400;
+/// How long both are run by turns.
+pub const SPAN: Duration = Duration::from_secs(3);
 
 /// The best times of both sides for one unit of work.
 pub struct Timing {
@@ -23,15 +24,19 @@ impl Timing {
         mut rusts: impl FnMut(),
     ) -> Self {
         let mut best = [Duration::MAX; 2];
-        for round in 0..ROUNDS {
-            // Whichever comes second may find things in the cache.
-            for side in [round % 2, 1 - round % 2] {
+        let begin = Instant::now();
+        // Whichever comes second may find things in the cache.
+        for first in [0, 1].into_iter().cycle() {
+            for side in [first, 1 - first] {
                 let start = Instant::now();
                 match side {
                     0 => ours(),
                     _ => rusts(),
                 }
                 best[side] = best[side].min(start.elapsed());
+            }
+            if begin.elapsed() > SPAN {
+                break;
             }
         }
         let [ours, rusts] = best.map(|time| time.as_nanos() as f64 / units as f64);
