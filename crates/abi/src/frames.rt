@@ -55,6 +55,7 @@ fn forty_nine(s: &[u8]) -> [u8; 49]
     to
 }
 
+// Lengths alone, so that a part that is too short is never read.
 fn init_lacks(hints: usize, hints_by_ref: usize, present: usize, frame: usize) -> bool
     ensures { λ r. ⌜ r ≡ initLacks hints «hints_by_ref» present frame ⌝ }
 {
@@ -85,6 +86,8 @@ fn set_up(d: Description, present: [u8; 7], frame: &mut [u8]) -> u8
     answer
 }
 
+// The answer is 0, and the record is laid over the start of frame, or a refusal, and then nothing is
+// written: a caller can keep what it had.
 #[no_mangle]
 pub extern "C" fn jaskkovir_init_frame(
     width: usize,
@@ -125,6 +128,7 @@ pub extern "C" fn jaskkovir_init_frame(
     set_up(d, seven(present), frame)
 }
 
+// Whether bytes that come back are a record that setup can give.
 #[no_mangle]
 pub extern "C" fn jaskkovir_check(frame: &[u8]) -> u8
     ensures { λ r. ⌜ r ≡ checked (now (frame .entry)) ⌝ }
@@ -143,6 +147,7 @@ fn put_listed(s: &mut [u8], r: Listed)
     put_sizes(s, 0, &numbers);
 }
 
+// How much a caller has to lend: cells of a saved field, cells of the projection, records.
 #[no_mangle]
 pub extern "C" fn jaskkovir_listed_sizes(frame: &[u8], sizes: &mut [u8]) -> u8
     ensures { λ r. ⌜ r ≡ listedAnswer (now (frame .entry)) (length (now (sizes .entry))) ⌝ }

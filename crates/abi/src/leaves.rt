@@ -13,6 +13,7 @@ ghost use Rattle.vector.specs.Precision.{lowered};
 ghost use Rattle.vector.specs.Hint.{distance};
 ghost use Rattle.abi.specs.Leaf.{mv, packed};
 
+// One number, since C has no struct in common with us.
 fn pack(v: Mv) -> u32
     ensures { λ r. ⌜ r ≡ packed v ⌝ }
 {

@@ -46,6 +46,8 @@ fn set_row(
     answer
 }
 
+// The answer is 0, and the tile is laid over the start of the part lent for it, or a refusal, and
+// then nothing is written.
 #[no_mangle]
 pub extern "C" fn jaskkovir_tile_sbrow_init(
     frame: &[u8],
@@ -78,6 +80,7 @@ pub extern "C" fn jaskkovir_tile_sbrow_init(
     set_row(frame, col, row, sby, tile_row, pass, tile)
 }
 
+// Lengths alone, so that a part that is too short is never read.
 fn splat_lacks(frame: usize, tile: usize, block: usize) -> bool
     ensures { λ r. ⌜ r ≡ splatLacks frame tile block ⌝ }
 {
@@ -104,6 +107,8 @@ fn splat_of(block: &[u8], y: usize, x: usize, w: usize, h: usize) -> Splat
     }
 }
 
+// Lays the record over every place that the block covers. The answer is 0, or a refusal, and then
+// nothing is written.
 #[no_mangle]
 pub extern "C" fn jaskkovir_splat_mv(
     frame: &[u8],
