@@ -46,6 +46,19 @@ pub(crate) fn put_blocks(rf: &mut RefMvsFrame, blocks: &[RefMvsBlock]) {
     rf.r.index_mut(..).copy_from_slice(blocks);
 }
 
+/// Replaces one of the frame's records.
+pub(crate) fn put_block(rf: &mut RefMvsFrame, at: usize, record: [u8; RECORD_LEN]) {
+    *rf.r.index_mut(at) = real(record);
+}
+
+/// Copies the frame's records over as many of the bytes as they have.
+pub(crate) fn take_blocks(rf: &RefMvsFrame, bytes: &mut [u8]) {
+    let (whole, _) = bytes.as_chunks_mut::<RECORD_LEN>();
+    for (bytes, block) in whole.iter_mut().zip(rf.r.index(..).iter()) {
+        *bytes = record_bytes(block);
+    }
+}
+
 /// The bytes of the frame's records.
 pub(crate) fn record_buffer(rf: &RefMvsFrame) -> Vec<u8> {
     rf.r.index(..).iter().flat_map(record_bytes).collect()

@@ -110,6 +110,45 @@ pub fn setup(description: &Description, present: [bool; 7]) -> Outcome<Finished>
     outcome_of(|| Finished::from(&inputs.set_up()))
 }
 
+/// The same without the buffers, which are large for a large frame: `records` and `projection` are 0.
+pub fn setup_without_buffers(description: &Description, present: [bool; 7]) -> Outcome<Finished> {
+    let inputs = Inputs::new(description, present);
+    // Setup makes buffers only where the number of blocks changes. Were this another number than
+    // setup comes to, it would make them, and `n_blocks` would still be its own.
+    let tile_rows_apart = match description.tile_threads {
+        0 | 1 => 1,
+        _ => description.tile_rows,
+    };
+    let rf = RefMvsFrame {
+        n_blocks: 16 * description.width.div_ceil(128) * tile_rows_apart,
+        ..Default::default()
+    };
+    outcome_of(|| Finished::from(&inputs.set_up_on(rf)))
+}
+
+/// A setup with all that it needs in the Rust's own types, so that the call alone can be timed.
+pub struct Prepared {
+    inputs: Inputs,
+    rf: RefMvsFrame,
+}
+
+impl Prepared {
+    pub fn new(description: &Description, present: [bool; 7]) -> Self {
+        let inputs = Inputs::new(description, present);
+        let rf = inputs.set_up();
+        Self { inputs, rf }
+    }
+
+    /// `rav1d_refmvs_init_frame`, once, on the record of the call before. Its buffers are there.
+    pub fn call(&mut self) {
+        self.inputs.call(&mut self.rf);
+    }
+
+    pub fn finished(&self) -> Finished {
+        (&self.rf).into()
+    }
+}
+
 /// A description in the Rust's own types.
 pub(crate) struct Inputs {
     sequence: Rav1dSequenceHeader,
@@ -150,9 +189,17 @@ impl Inputs {
     }
 
     pub(crate) fn set_up(&self) -> RefMvsFrame {
-        let mut rf = RefMvsFrame::default();
+        self.set_up_on(RefMvsFrame::default())
+    }
+
+    fn set_up_on(&self, mut rf: RefMvsFrame) -> RefMvsFrame {
+        self.call(&mut rf);
+        rf
+    }
+
+    fn call(&self, rf: &mut RefMvsFrame) {
         rav1d_refmvs_init_frame(
-            &mut rf,
+            rf,
             &self.sequence,
             &self.header,
             &self.hints,
@@ -162,7 +209,6 @@ impl Inputs {
             self.frame_threads,
         )
         .unwrap();
-        rf
     }
 }
 

@@ -10,6 +10,7 @@ pub mod leaves;
 pub mod load;
 mod outcome;
 pub mod paper;
+pub mod record;
 pub mod rows;
 pub mod save;
 mod sequence_header;

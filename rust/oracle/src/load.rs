@@ -3,7 +3,10 @@
 use crate::buffers;
 use crate::frame::Description;
 use crate::frame::Inputs;
+use crate::leaves;
 use crate::outcome::outcome_of;
+use crate::paper::FrameRecord;
+use crate::record;
 use crate::src::disjoint_mut::DisjointMutArcSlice;
 use crate::src::refmvs::Rav1dRefmvsDSPContext;
 use crate::src::refmvs::RefMvsFrame;
@@ -53,6 +56,17 @@ impl Prepared {
         Self::on(rf, window.real(), fields, projection)
     }
 
+    /// The same for a well-formed record, which need not be one that setup gives.
+    pub fn on_record(
+        record: &FrameRecord,
+        window: &Window,
+        fields: [Option<&[u8]>; 7],
+        projection: &[u8],
+    ) -> Self {
+        let rf = record::without_buffers(record);
+        Self::on(rf, window.real(), fields, projection)
+    }
+
     fn on(
         mut rf: RefMvsFrame,
         window: [i32; 5],
@@ -86,6 +100,16 @@ impl Prepared {
         );
     }
 
+    /// The same, with a panic told as a value.
+    pub fn try_call(&self) -> Outcome<()> {
+        outcome_of(|| self.call())
+    }
+
+    /// Turns to another window.
+    pub fn set_window(&mut self, window: &Window) {
+        self.window = window.real();
+    }
+
     /// Replaces the projection, which keeps its length.
     pub fn put_projection(&mut self, bytes: &[u8]) {
         buffers::put_cells(&mut self.rf.rp_proj.index_mut(..), bytes);
@@ -98,8 +122,16 @@ impl Prepared {
 
     /// Replaces the field of a reference that has one.
     pub fn put_field(&mut self, reference: usize, bytes: &[u8]) {
+        buffers::put_cells(&mut self.field(reference).inner.index_mut(..), bytes);
+    }
+
+    /// Replaces one cell of such a field.
+    pub fn put_cell(&mut self, reference: usize, at: usize, bytes: [u8; 5]) {
+        *self.field(reference).inner.index_mut(at) = leaves::temporal_block(bytes);
+    }
+
+    fn field(&self, reference: usize) -> &DisjointMutArcSlice<RefMvsTemporalBlock> {
         let field = self.fields[reference].as_ref();
-        let field = field.expect("the reference has a field");
-        buffers::put_cells(&mut field.inner.index_mut(..), bytes);
+        field.expect("the reference has a field")
     }
 }

@@ -3,10 +3,13 @@
 use crate::frame::Description;
 use crate::frame::Inputs;
 use crate::outcome::outcome_of;
+use crate::paper::FrameRecord;
+use crate::record;
 use crate::src::refmvs::rav1d_refmvs_tile_sbrow_init;
 use crate::src::refmvs::RefMvsFrame;
 use crate::src::refmvs::RefmvsTile;
 use crate::src::refmvs::RefmvsTileRange;
+use crate::window;
 use crate::Outcome;
 
 /// The Rust's mark for an entry that isn't there.
@@ -88,10 +91,31 @@ impl From<&Table> for RefmvsTile {
 pub fn setup(description: &Description, place: &Place) -> Outcome<Table> {
     // The references' fields don't come into it.
     let inputs = Inputs::new(description, [false; 7]);
-    let numbers = place
-        .numbers()
-        .map(|number| i32::try_from(number).expect("a number fits the Rust's type"));
+    let numbers = place.numbers().map(window::real);
     outcome_of(|| tile(&inputs.set_up(), numbers).into())
+}
+
+/// A tile in the Rust's own type.
+pub struct Tile(RefmvsTile);
+
+/// A frame in the Rust's own type, for many rows.
+pub struct Prepared(RefMvsFrame);
+
+impl Prepared {
+    /// The record must be well formed.
+    pub fn on_record(record: &FrameRecord) -> Self {
+        Self(record::without_buffers(record))
+    }
+
+    /// `rav1d_refmvs_tile_sbrow_init`. The numbers must fit the types of the Rust.
+    pub fn setup(&self, place: &Place) -> Outcome<Table> {
+        outcome_of(|| Table::from(self.call(place).0))
+    }
+
+    /// The same, left in the Rust's own type. It panics where the Rust does.
+    pub fn call(&self, place: &Place) -> Tile {
+        Tile(tile(&self.0, place.numbers().map(window::real)))
+    }
 }
 
 pub(crate) fn tile(rf: &RefMvsFrame, numbers: [i32; 7]) -> RefmvsTile {

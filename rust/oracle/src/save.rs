@@ -4,6 +4,8 @@ use crate::buffers;
 use crate::frame::Description;
 use crate::frame::Inputs;
 use crate::outcome::outcome_of;
+use crate::paper::FrameRecord;
+use crate::record;
 use crate::rows;
 use crate::src::disjoint_mut::DisjointMutArcSlice;
 use crate::src::refmvs::Rav1dRefmvsDSPContext;
@@ -85,17 +87,27 @@ impl Prepared {
         Self::on(rf, place.real(), &buffers::blocks(records), field)
     }
 
+    /// The same for a well-formed record, which need not be one that setup gives.
+    pub fn on_record(record: &FrameRecord, place: &Place, records: &[u8], field: &[u8]) -> Self {
+        let rf = record::without_buffers(record);
+        Self::on(rf, place.real(), &buffers::blocks(records), field)
+    }
+
     fn on(mut rf: RefMvsFrame, numbers: [i32; 7], blocks: &[RefMvsBlock], field: &[u8]) -> Self {
-        let [tile_row, col_start, col_end, row_start, row_end, superblock_row, pass] = numbers;
         buffers::put_blocks(&mut rf, blocks);
-        // A save doesn't read the tile's bounds.
-        let rt = rows::tile(&rf, [0, 0, 0, 0, superblock_row, tile_row, pass]);
         Self {
+            rt: tile(&rf, numbers),
             rf,
-            rt,
             field: Some(buffers::cells(field).collect()),
-            bounds: [col_start, col_end, row_start, row_end],
+            bounds: bounds(numbers),
         }
+    }
+
+    /// Turns to another window, superblock row or pass.
+    pub fn set_place(&mut self, place: &Place) {
+        let numbers = place.real();
+        self.rt = tile(&self.rf, numbers);
+        self.bounds = bounds(numbers);
     }
 
     /// `save_tmvs`, once. It panics where the Rust does.
@@ -110,6 +122,16 @@ impl Prepared {
             row_start,
             row_end,
         );
+    }
+
+    /// The same, with a panic told as a value.
+    pub fn try_call(&self) -> Outcome<()> {
+        outcome_of(|| self.call())
+    }
+
+    /// Replaces one record. Byte 10 must be a size code.
+    pub fn put_record(&mut self, at: usize, record: [u8; 12]) {
+        buffers::put_block(&mut self.rf, at, record);
     }
 
     /// Replaces the records by as many as the bytes hold.
@@ -130,4 +152,15 @@ impl Prepared {
     fn cells(&self) -> &DisjointMutArcSlice<RefMvsTemporalBlock> {
         self.field.as_ref().expect("a save has its field")
     }
+}
+
+/// A save doesn't read the tile's bounds.
+fn tile(rf: &RefMvsFrame, numbers: [i32; 7]) -> RefmvsTile {
+    let [tile_row, _, _, _, _, superblock_row, pass] = numbers;
+    rows::tile(rf, [0, 0, 0, 0, superblock_row, tile_row, pass])
+}
+
+fn bounds(numbers: [i32; 7]) -> [i32; 4] {
+    let [_, col_start, col_end, row_start, row_end, _, _] = numbers;
+    [col_start, col_end, row_start, row_end]
 }

@@ -5,6 +5,8 @@ use crate::buffers::real;
 use crate::frame::Description;
 use crate::frame::Inputs;
 use crate::outcome::outcome_of;
+use crate::paper::FrameRecord;
+use crate::record;
 use crate::rows::Table;
 use crate::src::align::Align16;
 use crate::src::internal::Bxy;
@@ -67,6 +69,11 @@ impl Prepared {
         Self::on(Inputs::new(description, [false; 7]).set_up(), table)
     }
 
+    /// The same for a well-formed record, which need not be one that setup gives.
+    pub fn on_record(record: &FrameRecord, table: &Table) -> Self {
+        Self::on(record::real_frame(record), table)
+    }
+
     fn on(rf: RefMvsFrame, table: &Table) -> Self {
         let rt = RefmvsTile::from(table);
         Self { rf, rt }
@@ -75,6 +82,15 @@ impl Prepared {
     /// `splat_mv`, once. It panics where the Rust does.
     pub fn call(&self, block: &Block, record: &Splatted) {
         self.call_at(origin(block), block, record);
+    }
+
+    /// The same, with a panic told as a value.
+    pub fn try_call(&self, block: &Block, record: &Splatted) -> Outcome<()> {
+        outcome_of(|| self.call(block, record))
+    }
+
+    pub fn set_table(&mut self, table: &Table) {
+        self.rt = table.into();
     }
 
     fn call_at(&self, origin: Bxy, block: &Block, record: &Splatted) {
@@ -96,6 +112,11 @@ impl Prepared {
     /// The bytes of the records.
     pub fn records(&self) -> Vec<u8> {
         buffers::record_buffer(&self.rf)
+    }
+
+    /// Copies the records out. What stands behind the last whole record stays.
+    pub fn take_records(&self, bytes: &mut [u8]) {
+        buffers::take_blocks(&self.rf, bytes);
     }
 }
 

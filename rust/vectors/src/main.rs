@@ -13,11 +13,11 @@ mod real;
 mod record;
 mod row;
 mod save;
-mod sequences;
 mod splat;
-mod split_mix;
 
 use list::List;
+use shared::sequences;
+use shared::split_mix;
 use std::env;
 use std::path::Path;
 use std::process::ExitCode;

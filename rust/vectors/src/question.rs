@@ -3,10 +3,7 @@ use oracle::frame::Description;
 use oracle::frame::Finished;
 use oracle::paper;
 use oracle::paper::FrameRecord;
-use oracle::paper::HintFields;
-use oracle::paper::Slot;
-use std::array;
-use std::fmt::Debug;
+use oracle::record::frame_record;
 
 /// A frame that is to be set up: 100 bytes at the start of each case.
 #[derive(Clone, Copy)]
@@ -107,39 +104,4 @@ impl FrameQuestion {
             _ => Err("the paper refuses the Rust's own record".to_string()),
         }
     }
-}
-
-/// The port's record: the Rust's, and the numbers of the description that the Rust's doesn't keep.
-fn frame_record(description: &Description, finished: &Finished) -> FrameRecord {
-    FrameRecord {
-        width: description.width,
-        height: description.height,
-        iw4: fit(finished.iw4),
-        ih4: fit(finished.ih4),
-        iw8: fit(finished.iw8),
-        ih8: fit(finished.ih8),
-        sbsz: fit(finished.sbsz),
-        stride: finished.rp_stride,
-        tile_rows: description.tile_rows,
-        n_blocks: finished.n_blocks,
-        n_tile_threads: finished.n_tile_threads,
-        n_frame_threads: finished.n_frame_threads,
-        use_ref_frame_mvs: fit(finished.use_ref_frame_mvs),
-        temporal: fit(description.temporal),
-        n_mfmvs: fit(finished.n_mfmvs),
-        hints: array::from_fn(|i| HintFields {
-            sign_bias: finished.sign_bias[i],
-            mfmv_sign: finished.mfmv_sign[i],
-            pocdiff: finished.pocdiff[i],
-        }),
-        slots: array::from_fn(|n| Slot {
-            reference: finished.mfmv_ref[n],
-            ref2cur: finished.mfmv_ref2cur[n].map(fit),
-            ref2ref: finished.mfmv_ref2ref[n].map(fit),
-        }),
-    }
-}
-
-fn fit<T, U: TryInto<T, Error: Debug>>(number: U) -> T {
-    number.try_into().expect("the Rust's number fits its field")
 }

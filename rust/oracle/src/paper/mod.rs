@@ -242,12 +242,14 @@ fn record_is_well_formed(bytes: [u8; 12]) -> bool {
         && vector_is_fine(4, second)
 }
 
-fn listed_records(record: &FrameRecord) -> u64 {
+/// How many records are lent for a frame.
+pub fn listed_records(record: &FrameRecord) -> u64 {
     let passes = if record.n_frame_threads > 1 { 2 } else { 1 };
     70 * u64::from(record.n_blocks) * passes + 1
 }
 
-fn saved_cells(record: &FrameRecord) -> u64 {
+/// How many cells a saved field has.
+pub fn saved_cells(record: &FrameRecord) -> u64 {
     u64::from(record.stride) * u64::from(record.ih8)
 }
 

@@ -1,6 +1,7 @@
-//! Reads the frame set-ups out of traced sequences.
+//! Reads the events out of traced sequences.
 
 use std::fs;
+use std::io;
 use std::path::Path;
 use std::path::PathBuf;
 
@@ -9,19 +10,35 @@ const MAGIC: &[u8] = b"MVSEQ1\n\0";
 /// The body of a frame set-up, whole.
 pub const FRAME_LEN: usize = 125;
 
+/// One event of a decode.
+#[derive(Clone, Copy)]
+pub struct Event<'a> {
+    pub letter: u8,
+    /// Whole, without the letter.
+    pub body: &'a [u8],
+}
+
 /// The bodies of all frame set-ups of all sequences in a folder, by file name and then in order.
 pub fn frames(folder: &Path) -> Result<Vec<[u8; FRAME_LEN]>, String> {
     let mut frames = Vec::new();
-    for path in sequence_files(folder)? {
-        let told = |why: String| format!("{}: {why}", path.display());
-        let bytes = fs::read(&path).map_err(|error| told(error.to_string()))?;
-        frames.extend(frames_of(&bytes).map_err(told)?);
+    for path in files(folder)? {
+        frames.extend(frames_of(&read(&path)?).map_err(|why| told(&path, why))?);
     }
     Ok(frames)
 }
 
-fn sequence_files(folder: &Path) -> Result<Vec<PathBuf>, String> {
-    let told = |error| format!("{}: {error}", folder.display());
+/// A sequence's bytes.
+pub fn read(path: &Path) -> Result<Vec<u8>, String> {
+    fs::read(path).map_err(|error| told(path, error.to_string()))
+}
+
+fn told(path: &Path, why: String) -> String {
+    format!("{}: {why}", path.display())
+}
+
+/// The sequences in a folder, by name.
+pub fn files(folder: &Path) -> Result<Vec<PathBuf>, String> {
+    let told = |error: io::Error| told(folder, error.to_string());
     let mut paths = Vec::new();
     for entry in fs::read_dir(folder).map_err(told)? {
         let path = entry.map_err(told)?.path();
@@ -34,18 +51,24 @@ fn sequence_files(folder: &Path) -> Result<Vec<PathBuf>, String> {
 }
 
 fn frames_of(bytes: &[u8]) -> Result<Vec<[u8; FRAME_LEN]>, String> {
+    let setups = events(bytes)?.into_iter().filter(|it| it.letter == b'F');
+    Ok(setups
+        .map(|it| it.body.try_into().expect("the event has its length"))
+        .collect())
+}
+
+/// The events of a sequence, in order.
+pub fn events(bytes: &[u8]) -> Result<Vec<Event<'_>>, String> {
     let mut rest = bytes.strip_prefix(MAGIC).ok_or("no sequence")?;
-    let mut frames = Vec::new();
+    let mut events = Vec::new();
     while let Some((&letter, body)) = rest.split_first() {
         let (body, after) = event_len(letter, body)
             .and_then(|len| body.split_at_checked(len))
             .ok_or_else(|| format!("a bad event {} bytes before the end", rest.len()))?;
-        if letter == b'F' {
-            frames.push(body.try_into().expect("the event has its length"));
-        }
+        events.push(Event { letter, body });
         rest = after;
     }
-    Ok(frames)
+    Ok(events)
 }
 
 /// The length of an event's body, or nothing for an unknown letter or a body cut short.
@@ -107,6 +130,16 @@ mod tests {
             frames.iter().map(|frame| frame[0]).collect::<Vec<_>>(),
             [1, 2]
         );
+    }
+
+    #[test]
+    fn events_have_their_letters_and_lengths() {
+        let sequence = sequence();
+        let events = events(&sequence).unwrap();
+        let letters: Vec<u8> = events.iter().map(|event| event.letter).collect();
+        assert_eq!(letters, b"FRSLVQQF");
+        let lens: Vec<usize> = events.iter().map(|event| event.body.len()).collect();
+        assert_eq!(lens, [125, 12, 18, 35, 11, 33, 51, 125]);
     }
 
     #[test]

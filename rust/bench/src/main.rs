@@ -1,0 +1,44 @@
+//! Times the port beside the Rust: one process, the same inputs, a frame of 1920 x 1080 with three
+//! references. Prints a table.
+
+mod frame;
+mod inputs;
+#[cfg(feature = "tmvs")]
+mod load;
+mod rows;
+#[cfg(feature = "tmvs")]
+mod save;
+mod splat;
+mod timing;
+
+use std::hint::black_box;
+use std::panic;
+use timing::Timing;
+
+fn main() {
+    println!(
+        "1920 x 1080, three references, one thread; best rounds of {:?} each, by turns. Overflow \
+         checks of the Rust: {}.\n",
+        timing::SPAN,
+        if overflow_is_checked() { "on" } else { "off" }
+    );
+    println!("| what | unit | ours, ns | the Rust, ns | ours / the Rust |");
+    println!("|---|---|---|---|---|");
+    let mut timings: Vec<Timing> = vec![frame::setup(), rows::setup()];
+    timings.extend(splat::all());
+    #[cfg(feature = "tmvs")]
+    timings.extend(load::all());
+    #[cfg(feature = "tmvs")]
+    timings.extend(save::all());
+    for timing in timings {
+        println!("{timing}");
+    }
+}
+
+/// All crates of a build have the same profile, so this one's checks are the oracle's too.
+fn overflow_is_checked() -> bool {
+    panic::set_hook(Box::new(|_| {}));
+    let checked = panic::catch_unwind(|| black_box(i32::MAX) + black_box(1)).is_err();
+    let _ = panic::take_hook();
+    checked
+}

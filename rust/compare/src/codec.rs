@@ -1,0 +1,159 @@
+//! The frame record and the tile in bytes, as the port lays them out.
+
+use jaskkovir::Frame;
+use jaskkovir::Tile;
+use oracle::paper::FrameRecord;
+use oracle::paper::HintFields;
+use oracle::paper::RowTable;
+use oracle::paper::Slot;
+use oracle::rows::Table;
+
+const SKIPPED: i16 = i16::MIN;
+
+const ABSENT: u32 = u32::MAX;
+
+/// Where the numbers of one byte start, then the hints and the selected references.
+const FLAGS: usize = 48;
+const HINTS: usize = 51;
+const SLOTS: usize = 79;
+
+pub fn frame_bytes(record: &FrameRecord) -> [u8; Frame::LEN] {
+    let mut bytes = Vec::with_capacity(Frame::LEN);
+    bytes.extend(sizes(record).into_iter().flat_map(u32::to_le_bytes));
+    bytes.extend([record.use_ref_frame_mvs, record.temporal, record.n_mfmvs]);
+    for hint in &record.hints {
+        bytes.extend([hint.sign_bias, hint.mfmv_sign]);
+        bytes.extend(i16::from(hint.pocdiff).to_le_bytes());
+    }
+    for slot in &record.slots {
+        bytes.push(slot.reference);
+        bytes.extend(slot.ref2cur.map_or(SKIPPED, i16::from).to_le_bytes());
+        bytes.extend(slot.ref2ref);
+    }
+    bytes.try_into().expect("the fields have 109 bytes")
+}
+
+fn sizes(record: &FrameRecord) -> [u32; 12] {
+    [
+        record.width,
+        record.height,
+        record.iw4,
+        record.ih4,
+        record.iw8,
+        record.ih8,
+        record.sbsz,
+        record.stride,
+        record.tile_rows,
+        record.n_blocks,
+        record.n_tile_threads,
+        record.n_frame_threads,
+    ]
+}
+
+/// Any bytes as a record that the paper can judge.
+pub fn frame_at(bytes: &[u8; Frame::LEN]) -> FrameRecord {
+    let size = |i: usize| four_at(bytes, 4 * i);
+    FrameRecord {
+        width: size(0),
+        height: size(1),
+        iw4: size(2),
+        ih4: size(3),
+        iw8: size(4),
+        ih8: size(5),
+        sbsz: size(6),
+        stride: size(7),
+        tile_rows: size(8),
+        n_blocks: size(9),
+        n_tile_threads: size(10),
+        n_frame_threads: size(11),
+        use_ref_frame_mvs: bytes[FLAGS],
+        temporal: bytes[FLAGS + 1],
+        n_mfmvs: bytes[FLAGS + 2],
+        hints: std::array::from_fn(|i| hint_at(bytes, HINTS + 4 * i)),
+        slots: std::array::from_fn(|n| slot_at(bytes, SLOTS + 10 * n)),
+    }
+}
+
+fn hint_at(bytes: &[u8], at: usize) -> HintFields {
+    HintFields {
+        sign_bias: bytes[at],
+        mfmv_sign: bytes[at + 1],
+        pocdiff: narrowed(half_at(bytes, at + 2)),
+    }
+}
+
+fn slot_at(bytes: &[u8], at: usize) -> Slot {
+    let ref2cur = half_at(bytes, at + 1);
+    Slot {
+        reference: bytes[at],
+        ref2cur: (ref2cur != SKIPPED).then(|| narrowed(ref2cur)),
+        ref2ref: std::array::from_fn(|m| bytes[at + 3 + m]),
+    }
+}
+
+/// The paper keeps distances in a byte. What doesn't fit there is out of range, and so is this.
+fn narrowed(distance: i16) -> i8 {
+    distance.clamp(i8::MIN.into(), i8::MAX.into()) as i8
+}
+
+/// The Rust's table, with the starts that it was asked for.
+pub fn tile_bytes(table: &Table, [col_start, row_start]: [u32; 2]) -> [u8; Tile::LEN] {
+    let fit = |number: usize| u32::try_from(number).expect("a place fits four bytes");
+    let end = |number: i32| u32::try_from(number).expect("an end is cut to the frame");
+    let entries = table.entries.map(|entry| entry.map_or(ABSENT, fit));
+    let bounds = [col_start, end(table.col_end), row_start, end(table.row_end)];
+    let numbers = entries
+        .into_iter()
+        .chain([fit(table.projection)])
+        .chain(bounds);
+    let bytes: Vec<u8> = numbers.flat_map(u32::to_le_bytes).collect();
+    bytes.try_into().expect("42 numbers have 168 bytes")
+}
+
+/// Any bytes as a tile that the paper can judge.
+pub fn table_at(bytes: &[u8; Tile::LEN]) -> RowTable {
+    let number = |i: usize| four_at(bytes, 4 * i);
+    RowTable {
+        entries: std::array::from_fn(|e| Some(number(e)).filter(|&place| place != ABSENT)),
+        col_start: number(38),
+        col_end: number(39),
+        row_start: number(40),
+        row_end: number(41),
+    }
+}
+
+/// Replaces one of a tile's numbers.
+pub fn put_number(bytes: &mut [u8; Tile::LEN], at: usize, number: u32) {
+    bytes[4 * at..4 * at + 4].copy_from_slice(&number.to_le_bytes());
+}
+
+pub fn four_at(bytes: &[u8], at: usize) -> u32 {
+    u32::from_le_bytes(std::array::from_fn(|i| bytes[at + i]))
+}
+
+fn half_at(bytes: &[u8], at: usize) -> i16 {
+    i16::from_le_bytes([bytes[at], bytes[at + 1]])
+}
+
+#[cfg(test)]
+mod tests {
+    use super::*;
+    use crate::frames;
+    use shared::split_mix::SplitMix64;
+
+    #[test]
+    fn records_come_back_from_their_bytes() {
+        let mut random = SplitMix64::new(1);
+        for _ in 0..1000 {
+            let record = frames::record(&mut random, frames::WHOLE);
+            assert_eq!(frame_at(&frame_bytes(&record)), record);
+        }
+    }
+
+    #[test]
+    fn distances_that_are_out_of_range_stay_so() {
+        let far = [-32_767, -129, -32, 32, 128, 32_767];
+        assert!(far.map(narrowed).iter().all(|it| it.unsigned_abs() > 31));
+        assert_eq!([-31, 0, 31].map(narrowed), [-31, 0, 31]);
+    }
+}

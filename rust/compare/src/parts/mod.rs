@@ -1,0 +1,44 @@
+//! The parts of the comparison, each a function from the options to what it saw.
+
+mod checks;
+mod example;
+mod leaves;
+#[cfg(feature = "tmvs")]
+mod loads;
+mod rows;
+#[cfg(feature = "tmvs")]
+mod saves;
+mod sequences;
+mod setups;
+mod shorts;
+mod splats;
+
+use crate::options::Options;
+use crate::tally::Tally;
+
+pub use rows::table as row_table;
+
+pub type Part = fn(&Options) -> Result<Tally, String>;
+
+pub const SEQUENCES: &str = "sequences";
+
+/// All parts, in the order in which they run.
+pub fn all() -> impl Iterator<Item = (&'static str, Part)> {
+    let parts: Vec<(&'static str, Part)> = vec![
+        ("projection", leaves::projection),
+        ("precision", leaves::precision),
+        ("distance", leaves::distance),
+        ("setup", setups::compare),
+        ("check", checks::compare),
+        ("rows", rows::compare),
+        ("splat", splats::compare),
+        #[cfg(feature = "tmvs")]
+        ("save", saves::compare),
+        #[cfg(feature = "tmvs")]
+        ("load", loads::compare),
+        ("shorts", shorts::compare),
+        (SEQUENCES, sequences::compare),
+        ("example", example::compare),
+    ];
+    parts.into_iter()
+}

@@ -1,0 +1,17 @@
+//! Links the library that `rt staticlib abi` leaves in the repository.
+
+use std::env;
+use std::path::Path;
+
+fn main() {
+    let manifest = env::var("CARGO_MANIFEST_DIR").expect("cargo names the manifest's folder");
+    let folder = Path::new(&manifest).join("../../target/staticlib");
+    let library = folder.join("libabi.a");
+    println!("cargo::rerun-if-changed={}", library.display());
+    if !library.is_file() {
+        println!("cargo::error=target/staticlib/libabi.a isn't there: run `rt staticlib abi` in the repository's root");
+        return;
+    }
+    println!("cargo::rustc-link-search=native={}", folder.display());
+    println!("cargo::rustc-link-lib=static=abi");
+}

@@ -1,0 +1,134 @@
+//! The functions that take any slices. Each answers 0 or a refusal, and writes only where it
+//! answers 0.
+
+use crate::abi;
+
+/// What a frame is set up from.
+#[derive(Clone, Copy, Debug)]
+pub struct Description<'a> {
+    pub width: usize,
+    pub height: usize,
+    /// 1 for superblocks of 128 samples, 0 for 64.
+    pub sb128: u8,
+    pub hint_bits: u32,
+    pub current_hint: u32,
+    /// 7 bytes.
+    pub hints: &'a [u8],
+    /// 49 bytes, seven for each reference: the hints that its own frame had.
+    pub hints_by_ref: &'a [u8],
+    pub tile_rows: usize,
+    pub tile_threads: usize,
+    pub frame_threads: usize,
+    /// The header's flag for temporal search.
+    pub temporal: u8,
+}
+
+/// What a superblock row is set up from. Bounds are in 4-sample units.
+#[derive(Clone, Copy, Debug)]
+pub struct Row {
+    pub col_start: usize,
+    pub col_end: usize,
+    pub row_start: usize,
+    pub row_end: usize,
+    pub superblock_row: usize,
+    pub tile_row: usize,
+    pub pass: usize,
+}
+
+/// A block in 4-sample units.
+#[derive(Clone, Copy, Debug)]
+pub struct Block {
+    pub y: usize,
+    pub x: usize,
+    pub width: usize,
+    pub height: usize,
+}
+
+/// Frame setup. Accepted, it writes the first 109 bytes of `frame`. A reference's `present` byte, of
+/// 7, is 1 where its frame has the current one's size in units of 8 samples, and is neither a key
+/// nor an intra-only frame.
+pub fn init_frame(description: &Description, present: &[u8], frame: &mut [u8]) -> u8 {
+    let Description {
+        hints,
+        hints_by_ref,
+        ..
+    } = description;
+    // SAFETY: The parts are slices, and none shares a byte with the one written to.
+    unsafe {
+        abi::jaskkovir_init_frame(
+            description.width,
+            description.height,
+            description.sb128,
+            description.hint_bits,
+            description.current_hint,
+            hints.as_ptr(),
+            hints.len(),
+            hints_by_ref.as_ptr(),
+            hints_by_ref.len(),
+            description.tile_rows,
+            description.tile_threads,
+            description.frame_threads,
+            description.temporal,
+            present.as_ptr(),
+            present.len(),
+            frame.as_mut_ptr(),
+            frame.len(),
+        )
+    }
+}
+
+/// Whether a frame record is one that later calls take.
+pub fn check(frame: &[u8]) -> u8 {
+    // SAFETY: The part is a slice.
+    unsafe { abi::jaskkovir_check(frame.as_ptr(), frame.len()) }
+}
+
+/// How many cells and records to lend. Accepted, it writes the first 12 bytes of `sizes`: saved
+/// cells, projected cells, records (u32 each).
+pub fn listed_sizes(frame: &[u8], sizes: &mut [u8]) -> u8 {
+    // SAFETY: The parts are slices, and share no byte.
+    unsafe {
+        abi::jaskkovir_listed_sizes(frame.as_ptr(), frame.len(), sizes.as_mut_ptr(), sizes.len())
+    }
+}
+
+/// Superblock-row setup. Accepted, it writes the first 168 bytes of `tile`.
+pub fn tile_sbrow_init(frame: &[u8], row: &Row, tile: &mut [u8]) -> u8 {
+    // SAFETY: The parts are slices, and share no byte.
+    unsafe {
+        abi::jaskkovir_tile_sbrow_init(
+            frame.as_ptr(),
+            frame.len(),
+            row.col_start,
+            row.col_end,
+            row.row_start,
+            row.row_end,
+            row.superblock_row,
+            row.tile_row,
+            row.pass,
+            tile.as_mut_ptr(),
+            tile.len(),
+        )
+    }
+}
+
+/// Splat. Accepted, it writes the record to each place of the block in `records`.
+pub fn splat_mv(frame: &[u8], tile: &[u8], record: &[u8], block: &Block, records: &mut [u8]) -> u8 {
+    // SAFETY: The parts are slices, and none shares a byte with the one written to.
+    unsafe {
+        abi::jaskkovir_splat_mv(
+            frame.as_ptr(),
+            frame.len(),
+            tile.as_ptr(),
+            tile.len(),
+            record.as_ptr(),
+            record.len(),
+            block.y,
+            block.x,
+            block.width,
+            block.height,
+            records.as_mut_ptr(),
+            records.len(),
+        )
+    }
+}

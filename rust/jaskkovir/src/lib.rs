@@ -1,0 +1,21 @@
+//! Jaskkovir's functions for Rust: numbers and byte slices in, a number out.
+//!
+//! Every function answers on any numbers and any slices. 0 is acceptance; a refusal is one of
+//! [`refusal`]'s numbers, and then every lent byte is as before. Only the three [`leaves`] have a
+//! domain; outside it they give nothing.
+//!
+//! The functions of [`calls`] take slices of any length. [`Frame`] and [`Tile`] hold the two parts
+//! of a fixed size.
+
+mod abi;
+pub mod calls;
+mod frame;
+pub mod leaves;
+pub mod refusal;
+mod tile;
+#[cfg(feature = "tmvs")]
+pub mod tmvs;
+
+pub use frame::Frame;
+pub use frame::Listed;
+pub use tile::Tile;
