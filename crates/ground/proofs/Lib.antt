@@ -14,3 +14,4 @@ pub mod Windows
 pub mod Orders
 pub mod Belows
 pub mod Spans
+pub mod Lasts

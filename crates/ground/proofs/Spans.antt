@@ -131,7 +131,7 @@ grid g r (suc n) =
     at-row t a l = ap₂ g (row-of n r t l) (col-of n r t l)
 
 -- what no part covers, the whole does not; what holds every part holds the whole
-avoids-append : (i : ℕ) (ps qs : List Patch) → Avoids i ps → Avoids i qs → Avoids i (ps ++ qs)
+pub avoids-append : (i : ℕ) (ps qs : List Patch) → Avoids i ps → Avoids i qs → Avoids i (ps ++ qs)
 avoids-append i [] qs h g = g
 avoids-append i (p ∷ ps) qs h g = (h .0, avoids-append i ps qs (h .1) g)
 

@@ -9,3 +9,4 @@ pub mod Little
 pub mod Window
 pub mod Below
 pub mod Span
+pub mod Last

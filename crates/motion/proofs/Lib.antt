@@ -7,3 +7,4 @@ pub mod Placed
 pub mod Landings
 pub mod Usings
 pub mod Steps
+pub mod Targeted

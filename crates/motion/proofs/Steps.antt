@@ -1,7 +1,7 @@
 -- A load's steps: what each has to have, and that the whole load is its steps in order.
 -- Assumes nothing.
-use mathlib.Core.Path.{_≡_, refl, sym, ap, ap₂, _∙_, subst, subst⁻¹}
-use mathlib.Core.Bool.{Bool, true, false, not, _&&_, _||_}
+use mathlib.Core.Path.{_≡_, refl, sym, ap, ap₂, _∙_, subst⁻¹}
+use mathlib.Core.Bool.{Bool, true, false, not, _&&_}
 use mathlib.Core.List.{List, [], _∷_, _++_}
 use Prim.Native.Nat.{ℕ, zero, suc, _+_, _-_, _*_, _/_, _%_, _≤_, _<_}
 use native.Mathlib.Nat.{mul-zero, mul-comm, mul-le-mul, mul-le-mul-right, mod-lt, div-lt-iff-lt-mul}
@@ -10,7 +10,6 @@ use native.Mathlib.Omega.{arith}
 use lib.Dec.{eqb, ltb}
 use lib.ListN.{length, getD}
 use borrow.Author.Tests.{eq-eqb, ne-eqb, ltb-false, not-false}
-use Rattle.ground.specs.Answer.{orElse, accepted}
 use Rattle.ground.specs.Below.{allBelow}
 use Rattle.ground.specs.Pick.{pick}
 use Rattle.ground.specs.Script.{Patch, run}
@@ -22,7 +21,7 @@ use Rattle.ground.proofs.Products.{row-fits}
 use Rattle.ground.proofs.Spans as spans
 use Rattle.frame.specs.declared.record.Frame.{Frame}
 use Rattle.frame.specs.Description.{under}
-use Rattle.frame.specs.Sizes.{savedCells, projectedCells, wellSizes}
+use Rattle.frame.specs.Sizes.{savedCells, projectedCells}
 use Rattle.frame.specs.Record.{wellFrame}
 use Rattle.frame.proofs.Records.{frame-sizes}
 use Rattle.cells.specs.declared.cell.Cell.{Cell}
@@ -33,7 +32,7 @@ use Rattle.motion.specs.declared.used.Uses.{Uses}
 use Rattle.motion.specs.Area.{wellArea, bottomOf, windowOf}
 use Rattle.motion.specs.Load.{firstSource, endSource, cellRead, sourcesRead, clearRow, refRow, wholeScript, rowsOf, stepsOf, passScript, stepScript, passRead, stepRead, sources, longEnough, isLent, loadFront, loadReads, loadAnswer, loadScript, lengthsOf}
 use Rattle.motion.specs.Used.{usesOf, useAt}
-use Rattle.motion.specs.Places.{Bounded, Sound, Fielded, Fields}
+use Rattle.motion.specs.Places.{Bounded, Sound, Fields}
 use Rattle.motion.proofs.Areas as areas
 use Rattle.motion.proofs.Usings.{few-uses, able-uses}
 
@@ -208,12 +207,12 @@ front f a present lengths nproj z =
         bounded = bounded f a e h;
         few = few-uses f e;
         each = λ i l.
-        let u = able-uses f e i l in
-        record {
-          place = u .place;
-          numbers = u .numbers;
-          source = held f a present lengths i e h (belows.at _ (us .n) i (not-false _ (p4 .0)) l) (belows.at _ (us .n) i (not-false _ (p5 .0)) l);
-        };
+            let u = able-uses f e i l in
+            record {
+              place = u .place;
+              numbers = u .numbers;
+              source = held f a present lengths i e h (belows.at _ (us .n) i (not-false _ (p4 .0)) l) (belows.at _ (us .n) i (not-false _ (p5 .0)) l);
+            };
       };
       target = omega arith;
     }
@@ -249,8 +248,9 @@ module _ (fields : List (List ℕ)) (f : Frame) (a : Area) (present : List ℕ) 
     pub loaded : {r : ℕ} {t : List ℕ} → r ≡ firstOf (stepRead fields w us) 0 (stepsOf w us) → r ≡ 0 → t ≡ run (span (stepScript fields w us) 0 (stepsOf w us)) l
         → (0 ≡ loadAnswer fields f a present (length l)) × (t ≡ run (loadScript fields f a present (length l)) l)
     unfolding loadScript
-    loaded q k g =
-        (sym k ∙ q ∙ reads,
-        g ∙ ap (λ (p : List Patch). run p l) (sym (whole-steps fields w us))
-        ∙ ap₂ (λ (v : Window) (s : Uses). run (wholeScript fields v s) l) e u
-        ∙ run-accepted _ _ l (sym reads ∙ sym q ∙ k))
+    loaded q k g = (
+      sym k ∙ q ∙ reads,
+      g ∙ ap (λ (p : List Patch). run p l) (sym (whole-steps fields w us))
+          ∙ ap₂ (λ (v : Window) (s : Uses). run (wholeScript fields v s) l) e u
+          ∙ run-accepted _ _ l (sym reads ∙ sym q ∙ k),
+    )

@@ -1,13 +1,12 @@
 -- The uses of a load: put together one after the other, at most three, each of a field and with distances in range.
 -- Assumes nothing.
-use mathlib.Core.Path.{_≡_, refl, sym, ap, ap₂, _∙_, subst, subst⁻¹}
+use mathlib.Core.Path.{_≡_, refl, sym, ap, _∙_, subst⁻¹}
 use mathlib.Core.Bool.{Bool, true, false, _&&_}
 use mathlib.Core.List.{List, [], _∷_, _++_, append-nil}
 use Prim.Native.Nat.{ℕ, zero, suc, _+_, _-_, _≤_, _<_}
 use native.Mathlib.Decide.{decLt}
 use native.Mathlib.Omega.{arith}
 use lib.Dec.{leb}
-use lib.IntN.{ℤ, natAbs}
 use lib.ListN.{length, getD, set, replicate, length-append, List·getD-append, List·getD-eq-default}
 use lib.Seq.{getD-append-add}
 use borrow.Author.Tests.{leb-true}
@@ -28,7 +27,7 @@ use Rattle.frame.proofs.Described.{under-at}
 use Rattle.motion.specs.declared.used.Used.{Used}
 use Rattle.motion.specs.declared.used.Uses.{Uses}
 use Rattle.motion.specs.Used.{usedAs, useFor, useOf, usedOf, used, idleUse, heldAs, usesOf, noUse, useAt}
-use Rattle.motion.specs.Places.{pushed, takenIn, Numbers}
+use Rattle.motion.specs.Places.{takenIn, Numbers}
 
 set-pad : {A : Type 0} (xs : List A) (k : ℕ) (d u : A) → set (xs ++ replicate (suc k) d) (length xs) u ≡ (xs ++ (u ∷ [])) ++ replicate k d
 set-pad [] k d u = refl

@@ -5,4 +5,5 @@ pub mod Rooms
 pub mod Lands
 pub mod Used
 pub mod Load
+pub mod Targets
 pub mod Places

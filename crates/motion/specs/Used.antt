@@ -10,7 +10,6 @@ use Rattle.frame.specs.declared.mfmv.Ref2Cur.{Ref2Cur}
 use Rattle.frame.specs.declared.mfmv.Ref2Cur.the-variants.{Skipped, At}
 use Rattle.frame.specs.declared.record.Frame.{Frame}
 use Rattle.frame.specs.Mfmv.{noMfmv}
-use Rattle.motion.specs.declared.land.Motion.{Motion}
 use Rattle.motion.specs.declared.used.Used.{Used}
 use Rattle.motion.specs.declared.used.Uses.{Uses}
 

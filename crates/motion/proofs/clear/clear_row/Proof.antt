@@ -1,19 +1,18 @@
+-- `motion::clear::clear_row` meets its contract.
+-- Assumes nothing.
 use Rattle.motion.proofs.Landings.{wiped-one}
 use Rattle.ground.proofs.Products.{row-fits}
 use borrow.Author.Needs.{needs}
 use lib.ListN.{length}
-use Rattle.ground.specs.Span.{span, firstOf}
+use Rattle.ground.specs.Span.{span}
 use Rattle.ground.specs.Script.{run}
-use Rattle.ground.proofs.Spans.{start, more, on, stop, reach, asked, ask-on, ask-stops}
-use Rattle.motion.specs.Load.{firstSource, endSource, lane, rowScript, cellRead, sourcesRead, wipe, clearRow, sourceAt}
-use Prim.Native.Nat.{ℕ, _+_, _-_, _*_, _/_, _%_, _≤_, _<_}
+use Rattle.ground.proofs.Spans.{start, more, stop}
+use Rattle.motion.specs.Load.{wipe, clearRow}
+use Prim.Native.Nat.{_-_, _%_, _≤_}
 use native.Mathlib.Omega.{arith}
-use mathlib.Core.Path.{_≡_, refl, sym, ap, ap₂, _∙_, subst, subst⁻¹}
+use mathlib.Core.Path.{_≡_, refl, _∙_}
 use Rattle.motion.proofs.clear.clear_row.Statement.{statement}
 use Rattle.motion.proofs.clear.clear_row.Tie as tie
-use Rattle.motion.proofs.clear.clear_row.Reads as reads
-use Rattle.motion.proofs.clear.clear_row.Lts as lts
-use Rattle.motion.proofs.clear.clear_cell.Reads as clear-cell-reads
 
 abbrev Inv-loop : tie.InvT-loop
 Inv-loop proj₀ w y row q₀ proj q = (w .left ≤ q) × (q ≤ w .right) × (length proj ≡ length proj₀) × (proj ≡ run (span (wipe w y) (w .left) q) proj₀)
@@ -21,25 +20,20 @@ Inv-loop proj₀ w y row q₀ proj q = (w .left ≤ q) × (q ≤ w .right) × (l
 abbrev μ-loop : tie.MeasureT-loop
 μ-loop proj₀ w y row q₀ proj q = w .right - q
 
--- src/clear.rt:23:24
 mul-row : tie.Need-mul-row Inv-loop μ-loop
 mul-row c = let k = row-fits (c .before .before .args .y % 16) 16 (c .before .before .args .w .stride) (omega arith) in search needs
 
--- src/clear.rt:23:15
 add-row : tie.Need-add-row Inv-loop μ-loop
 add-row c = let k = row-fits (c .before .before .before .args .y % 16) 16 (c .before .before .before .args .w .stride) (omega arith) in search needs
 
--- src/clear.rt:25:5
 loop-holds : tie.Need-loop-holds Inv-loop μ-loop
 loop-holds c = (search needs, search needs, refl, start _ _ _)
 
--- src/clear.rt:26:26
 add-clear-cell : tie.Need-add-clear-cell Inv-loop μ-loop
 add-clear-cell c =
     let a = c .before .before .before .before .before .before .before .args in
     let k = row-fits (a .y % 16) 16 (a .w .stride) (omega arith) in search needs
 
--- src/clear.rt:26:9
 clear-cell-requires : tie.Need-clear-cell-requires Inv-loop μ-loop
 clear-cell-requires c κs =
     let a = c .before .before .before .before .before .before .before .args in
@@ -47,26 +41,21 @@ clear-cell-requires c κs =
     let p = c .before .before .before .before .before .before .before .pre in
     let i = c .before .before .before .loop .inv in omega arith
 
--- src/clear.rt:27:9
 add-q : tie.Need-add-q Inv-loop μ-loop
 add-q c = search needs
 
--- src/clear.rt:25:5
 loop-less : tie.Need-loop-less Inv-loop μ-loop
 loop-less c = search needs
 
--- src/clear.rt:25:5
 loop-again : tie.Need-loop-again Inv-loop μ-loop
 loop-again c =
     let l = c .before .before .before .before .before .before .loop in
     let w = c .before .before .clear-cell in
     (omega arith, omega arith, w .kept .0 ∙ l .inv .2, more _ _ _ (l .inv .0) _ (l .inv .3) (wiped-one _ _ _ _ (w .ensures)))
 
--- src/clear.rt:19:1
 same-length : tie.Need-same-length Inv-loop μ-loop
 same-length c = search needs
 
--- src/clear.rt:19:1
 returns : tie.Need-returns Inv-loop μ-loop
 unfolding clearRow
 returns c = let l = c .before .before .loop in stop _ _ _ _ (omega arith) _ (l .inv .3)

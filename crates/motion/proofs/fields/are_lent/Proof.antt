@@ -1,17 +1,16 @@
-use borrow.Author.Tests.{eq-eqb, ne-eqb, not-true, not-false}
-use Rattle.motion.specs.Used.{useAt}
-use Rattle.motion.specs.Load.{longEnough, isLent}
-use mathlib.Core.Bool.{true, false, not, _||_}
-use Rattle.ground.proofs.Belows as belows
+-- `motion::fields::are_lent` meets its contract.
+-- Assumes nothing.
+use borrow.Author.Tests.{eq-eqb, ne-eqb}
+use Rattle.motion.specs.Load.{isLent}
+use mathlib.Core.Bool.{true, not}
 use Rattle.ground.specs.Below.{allBelow}
 use borrow.Author.Needs.{needs}
-use Prim.Native.Nat.{ℕ, _+_, _-_, _*_, _/_, _%_, _≤_, _<_}
+use Prim.Native.Nat.{_-_, _≤_}
 use native.Mathlib.Omega.{arith}
-use mathlib.Core.Path.{_≡_, refl, sym, ap, ap₂, _∙_, subst, subst⁻¹}
+use mathlib.Core.Path.{_≡_, sym, ap}
 use Rattle.motion.proofs.fields.are_lent.Statement.{statement}
+use Rattle.ground.proofs.Belows as belows
 use Rattle.motion.proofs.fields.are_lent.Tie as tie
-use Rattle.motion.proofs.fields.are_lent.Reads as reads
-use Rattle.motion.proofs.fields.are_lent.Lts as lts
 
 abbrev Inv-loop : tie.InvT-loop
 Inv-loop us present at i₀ i = (i ≤ us .n) × (allBelow i (isLent us present) ≡ true)
@@ -19,23 +18,18 @@ Inv-loop us present at i₀ i = (i ≤ us .n) × (allBelow i (isLent us present)
 abbrev μ-loop : tie.MeasureT-loop
 μ-loop us present at i₀ i = us .n - i
 
--- src/fields.rt:70:5
 loop-holds : tie.Need-loop-holds Inv-loop μ-loop
 loop-holds c = (search needs, belows.none _)
 
--- src/fields.rt:71:17
 mul-u : tie.Need-mul-u Inv-loop μ-loop
 mul-u c = search needs
 
--- src/fields.rt:71:17
 array-copy-out-u : tie.Need-array-copy-out-u Inv-loop μ-loop
 array-copy-out-u c = search needs
 
--- src/fields.rt:73:12
 array-read-if2 : tie.Need-array-read-if2 Inv-loop μ-loop
 array-read-if2 c = c .before .before .before .before .before .pre .1 _ (c .before .if1 .taken)
 
--- src/fields.rt:74:13
 returns : tie.Need-returns Inv-loop μ-loop
 unfolding isLent
 returns c =
@@ -43,15 +37,12 @@ returns c =
     let l = c .before .before .before .before .loop in
     sym (belows.one-fails (isLent (s .args .us) (s .args .t2)) _ (l .i) (c .before .before .if1 .taken) (ap not (eq-eqb _ 0 (c .if2 .taken))))
 
--- src/fields.rt:76:9
 add-i : tie.Need-add-i Inv-loop μ-loop
 add-i c = search needs
 
--- src/fields.rt:70:5
 loop-less : tie.Need-loop-less Inv-loop μ-loop
 loop-less c = search needs
 
--- src/fields.rt:70:5
 loop-again : tie.Need-loop-again Inv-loop μ-loop
 unfolding isLent
 loop-again c =
@@ -59,7 +50,6 @@ loop-again c =
     let l = c .before .before .before .before .loop in
     (omega arith, belows.up (isLent (s .args .us) (s .args .t2)) (l .i) (belows.one-more _ (l .i) (l .inv .1) (ap not (ne-eqb _ 0 (c .if2 .left)))))
 
--- src/fields.rt:64:1
 returns-2 : tie.Need-returns-2 Inv-loop μ-loop
 returns-2 c =
     let l = c .before .before .loop in

@@ -1,18 +1,16 @@
-use borrow.Author.Tests.{eq-eqb, ne-eqb, not-true, not-false}
-use Rattle.motion.specs.Used.{useAt}
-use Rattle.motion.specs.Load.{longEnough, isLent}
-use mathlib.Core.Bool.{true, false, not, _||_}
-use Rattle.ground.proofs.Belows as belows
+-- `motion::fields::are_long` meets its contract.
+-- Assumes nothing.
+use borrow.Author.Tests.{not-true, not-false}
+use Rattle.motion.specs.Load.{longEnough}
+use mathlib.Core.Bool.{true}
 use Rattle.ground.specs.Below.{allBelow}
 use borrow.Author.Needs.{needs}
-use Prim.Native.Nat.{ℕ, _+_, _-_, _*_, _/_, _%_, _≤_, _<_}
+use Prim.Native.Nat.{_-_, _≤_}
 use native.Mathlib.Omega.{arith}
-use mathlib.Core.Path.{_≡_, refl, sym, ap, ap₂, _∙_, subst, subst⁻¹}
+use mathlib.Core.Path.{_≡_, sym, _∙_}
 use Rattle.motion.proofs.fields.are_long.Statement.{statement}
+use Rattle.ground.proofs.Belows as belows
 use Rattle.motion.proofs.fields.are_long.Tie as tie
-use Rattle.motion.proofs.fields.are_long.Reads as reads
-use Rattle.motion.proofs.fields.are_long.Lts as lts
-use Rattle.motion.proofs.fields.is_long.Reads as is-long-reads
 
 abbrev Inv-loop : tie.InvT-loop
 Inv-loop need us present lengths at i₀ i = (i ≤ us .n) × (allBelow i (longEnough need us present lengths) ≡ true)
@@ -20,35 +18,27 @@ Inv-loop need us present lengths at i₀ i = (i ≤ us .n) × (allBelow i (longE
 abbrev μ-loop : tie.MeasureT-loop
 μ-loop need us present lengths at i₀ i = us .n - i
 
--- src/fields.rt:50:5
 loop-holds : tie.Need-loop-holds Inv-loop μ-loop
 loop-holds c = (search needs, belows.none _)
 
--- src/fields.rt:51:17
 mul-u : tie.Need-mul-u Inv-loop μ-loop
 mul-u c = search needs
 
--- src/fields.rt:51:17
 array-copy-out-u : tie.Need-array-copy-out-u Inv-loop μ-loop
 array-copy-out-u c = search needs
 
--- src/fields.rt:53:27
 array-read-is-long : tie.Need-array-read-is-long Inv-loop μ-loop
 array-read-is-long c = c .before .before .before .before .before .pre .1 _ (c .before .if1 .taken)
 
--- src/fields.rt:53:39
 mul-is-long : tie.Need-mul-is-long Inv-loop μ-loop
 mul-is-long c = let k = c .before .before .before .before .before .pre .1 _ (c .before .if1 .taken) in search needs
 
--- src/fields.rt:53:39
 array-read-is-long-2 : tie.Need-array-read-is-long-2 Inv-loop μ-loop
 array-read-is-long-2 c = c .before .before .before .before .before .pre .1 _ (c .before .if1 .taken)
 
--- src/fields.rt:53:13
 is-long-requires : tie.Need-is-long-requires Inv-loop μ-loop
 is-long-requires c κs = search needs
 
--- src/fields.rt:54:13
 returns : tie.Need-returns Inv-loop μ-loop
 unfolding longEnough
 returns c =
@@ -56,15 +46,12 @@ returns c =
     let l = c .before .before .before .before .before .loop in
     sym (belows.one-fails (longEnough (s .args .need) (s .args .us) (s .args .t3) (s .args .t4)) _ (l .i) (c .before .before .before .if1 .taken) (sym (c .before .is-long .ensures) ∙ not-true _ (c .if2 .taken)))
 
--- src/fields.rt:56:9
 add-i : tie.Need-add-i Inv-loop μ-loop
 add-i c = search needs
 
--- src/fields.rt:50:5
 loop-less : tie.Need-loop-less Inv-loop μ-loop
 loop-less c = search needs
 
--- src/fields.rt:50:5
 loop-again : tie.Need-loop-again Inv-loop μ-loop
 unfolding longEnough
 loop-again c =
@@ -72,7 +59,6 @@ loop-again c =
     let l = c .before .before .before .before .before .loop in
     (omega arith, belows.up (longEnough (s .args .need) (s .args .us) (s .args .t3) (s .args .t4)) (l .i) (belows.one-more _ (l .i) (l .inv .1) (sym (c .before .is-long .ensures) ∙ not-false _ (c .if2 .left))))
 
--- src/fields.rt:44:1
 returns-2 : tie.Need-returns-2 Inv-loop μ-loop
 returns-2 c =
     let l = c .before .before .loop in

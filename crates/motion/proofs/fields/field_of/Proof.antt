@@ -1,42 +1,35 @@
+-- `motion::fields::field_of` meets its contract.
+-- Assumes nothing.
 use Rattle.motion.specs.Load.{lent}
 use Rattle.cells.proofs.Sizes.{miss}
 use lib.ListN.{getD}
 use mathlib.Core.List.{[]}
 use denote.Ref.{now}
-use Prim.Native.Nat.{ℕ, _+_, _-_, _*_, _/_, _%_, _≤_, _<_}
+use Prim.Native.Nat.{ℕ}
 use native.Mathlib.Omega.{arith}
-use mathlib.Core.Path.{_≡_, refl, sym, ap, ap₂, _∙_, subst, subst⁻¹}
+use mathlib.Core.Path.{_≡_, ap}
 use borrow.Author.Needs.{needs}
 use Rattle.motion.proofs.fields.field_of.Statement.{statement}
 use Rattle.motion.proofs.fields.field_of.Tie as tie
-use Rattle.motion.proofs.fields.field_of.Reads as reads
-use Rattle.motion.proofs.fields.field_of.Lts as lts
 
--- src/fields.rt:15:1
 returns : tie.Need-returns
 returns c = search needs
 
--- src/fields.rt:15:1
 returns-2 : tie.Need-returns-2
 returns-2 c = search needs
 
--- src/fields.rt:15:1
 returns-3 : tie.Need-returns-3
 returns-3 c = search needs
 
--- src/fields.rt:15:1
 returns-4 : tie.Need-returns-4
 returns-4 c = search needs
 
--- src/fields.rt:15:1
 returns-5 : tie.Need-returns-5
 returns-5 c = search needs
 
--- src/fields.rt:15:1
 returns-6 : tie.Need-returns-6
 returns-6 c = search needs
 
--- src/fields.rt:15:1
 returns-7 : tie.Need-returns-7
 returns-7 c =
     let k = miss (c .before .args .k) 6 (c .match .rest) in

@@ -1,17 +1,16 @@
+-- `motion::land::land_run` meets its contract.
+-- Assumes nothing.
 use borrow.Author.Needs.{needs}
 use lib.ListN.{length}
-use Rattle.ground.specs.Span.{span, firstOf}
+use Rattle.ground.specs.Span.{span}
 use Rattle.ground.specs.Script.{run}
-use Rattle.ground.proofs.Spans.{start, more, on, stop, reach, asked, ask-on, ask-stops}
-use Rattle.motion.specs.Places.{shift, near, stamp, Shifted, Run, Taken}
-use Prim.Native.Nat.{ℕ, _+_, _-_, _*_, _/_, _%_, _≤_, _<_}
+use Rattle.ground.proofs.Spans.{start, more, stop}
+use Rattle.motion.specs.Places.{stamp}
+use Prim.Native.Nat.{_-_, _≤_}
 use native.Mathlib.Omega.{arith}
-use mathlib.Core.Path.{_≡_, refl, sym, ap, ap₂, _∙_, subst, subst⁻¹}
+use mathlib.Core.Path.{_≡_, refl, _∙_}
 use Rattle.motion.proofs.land.land_run.Statement.{statement}
 use Rattle.motion.proofs.land.land_run.Tie as tie
-use Rattle.motion.proofs.land.land_run.Reads as reads
-use Rattle.motion.proofs.land.land_run.Lts as lts
-use Rattle.motion.proofs.land.land_one.Reads as land-one-reads
 
 abbrev Inv-loop : tie.InvT-loop
 Inv-loop proj₀ w row d c a e x₀ proj x = (a ≤ x) × (x ≤ e) × (length proj ≡ length proj₀) × (proj ≡ run (span (stamp w row d c) a x) proj₀)
@@ -19,34 +18,27 @@ Inv-loop proj₀ w row d c a e x₀ proj x = (a ≤ x) × (x ≤ e) × (length p
 abbrev μ-loop : tie.MeasureT-loop
 μ-loop proj₀ w row d c a e x₀ proj x = e - x
 
--- src/land.rt:111:5
 loop-holds : tie.Need-loop-holds Inv-loop μ-loop
 loop-holds c = (search needs, search needs, refl, start _ _ _)
 
--- src/land.rt:112:9
 land-one-requires : tie.Need-land-one-requires Inv-loop μ-loop
 land-one-requires c κs = search needs
 
--- src/land.rt:113:9
 add-x : tie.Need-add-x Inv-loop μ-loop
 add-x c = search needs
 
--- src/land.rt:111:5
 loop-less : tie.Need-loop-less Inv-loop μ-loop
 loop-less c = search needs
 
--- src/land.rt:111:5
 loop-again : tie.Need-loop-again Inv-loop μ-loop
 loop-again c =
     let l = c .before .before .before .before .before .loop in
     let w = c .before .before .land-one in
     (omega arith, omega arith, w .kept .0 ∙ l .inv .2, more _ _ _ (l .inv .0) _ (l .inv .3) (w .ensures))
 
--- src/land.rt:98:1
 same-length : tie.Need-same-length Inv-loop μ-loop
 same-length c = search needs
 
--- src/land.rt:98:1
 returns : tie.Need-returns Inv-loop μ-loop
 returns c = stop _ _ _ _ (omega arith) _ (c .before .loop .inv .3)
 

@@ -1,30 +1,25 @@
-use Rattle.ground.proofs.Bits.{same, kept}
+-- `motion::land::shifts` meets its contract.
+-- Assumes nothing.
+use Rattle.ground.proofs.Bits.{fits-abs}
 use Rattle.vector.proofs.Projections.{projected-within}
 use Rattle.vector.specs.Projection.{projected}
 use Rattle.vector.specs.Vector.{both, Within}
 use Rattle.vector.specs.declared.mv.Mv.{Mv}
-use Rattle.ground.proofs.Bits.{fits-abs}
 use mir.Val.{toZ, ofZ}
 use mir.Syntax.{w16}
 use mir.Facts.{toZ-ofZ}
 use lib.IntN.{ℤ, natAbs}
-use Rattle.motion.specs.Places.{shift, near, stamp, Shifted, Run, Taken}
-use Prim.Native.Nat.{ℕ, _+_, _-_, _*_, _/_, _%_, _≤_, _<_}
+use Rattle.motion.specs.Places.{shift}
+use Prim.Native.Nat.{ℕ, _≤_}
 use native.Mathlib.Omega.{arith}
-use mathlib.Core.Path.{_≡_, refl, sym, ap, ap₂, _∙_, subst, subst⁻¹}
+use mathlib.Core.Path.{_≡_, ap, _∙_, subst⁻¹}
 use borrow.Author.Needs.{needs}
 use Rattle.motion.proofs.land.shifts.Statement.{statement}
 use Rattle.motion.proofs.land.shifts.Tie as tie
-use Rattle.motion.proofs.land.shifts.Reads as reads
-use Rattle.motion.proofs.land.shifts.Lts as lts
-use Rattle.motion.proofs.land.shift_of.Reads as shift-of-reads
-use Rattle.vector.proofs.projection.mv_projection.Reads as mv-projection-reads
 
--- src/land.rt:80:9
 mv-projection-requires : tie.Need-mv-projection-requires
 mv-projection-requires c κs = search needs
 
--- src/land.rt:81:9
 -- the offset is the definition's, and within what a shift takes
 got : (c : tie.After-mv-projection) →
     let a = c .before .before .args in
@@ -42,11 +37,9 @@ held {v} u num den e =
 shift-of-requires : tie.Need-shift-of-requires
 shift-of-requires c κs = let h = held _ _ _ (got (c .before)) in omega (arith, ap natAbs (h .0 .0), h .1 .0)
 
--- src/land.rt:82:9
 shift-of-requires-2 : tie.Need-shift-of-requires-2
 shift-of-requires-2 c κs = let h = held _ _ _ (got (c .before .before .before)) in omega (arith, ap natAbs (h .0 .1), h .1 .1)
 
--- src/land.rt:75:1
 returns : tie.Need-returns
 returns c =
     let g = got (c .before .before .before .before) in

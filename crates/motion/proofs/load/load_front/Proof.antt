@@ -1,104 +1,77 @@
+-- `motion::load::load_front` meets its contract.
+-- Assumes nothing.
 use Rattle.rows.proofs.Parts.{blocks-fit}
 use Rattle.motion.proofs.Usings.{able-fields}
 use borrow.Author.Tests.{not-true, not-false, lt-ltb, le-ltb}
 use Rattle.frame.proofs.Sizing.{fits, saved-most}
 use Rattle.frame.proofs.Records.{frame-sizes}
 use Rattle.frame.specs.Sizes.{savedCells, projectedCells}
-use Rattle.motion.specs.Load.{lengthsOf, lent, sources, sourceAt, sourcesRead, refRow, rowScript, rowsOf, stepsOf, stepScript, stepRead, loadFront, loadAnswer, loadScript}
-use Prim.Native.Nat.{ℕ, _+_, _-_, _*_, _/_, _%_, _≤_, _<_}
+use Rattle.motion.specs.Load.{loadFront}
 use native.Mathlib.Omega.{arith}
-use mathlib.Core.Path.{_≡_, refl, sym, ap, ap₂, _∙_, subst, subst⁻¹}
+use mathlib.Core.Path.{sym, _∙_}
 use borrow.Author.Needs.{needs}
 use Rattle.motion.proofs.load.load_front.Statement.{statement}
 use Rattle.motion.proofs.load.load_front.Tie as tie
-use Rattle.motion.proofs.load.load_front.Reads as reads
-use Rattle.motion.proofs.load.load_front.Lts as lts
-use Rattle.frame.proofs.description.all_under.Reads as all-under-reads
-use Rattle.frame.proofs.record.Frame.well_formed.Reads as record-Frame-well-formed-reads
-use Rattle.frame.proofs.sizes.Sizes.projected_cells.Reads as projected-cells-reads
-use Rattle.frame.proofs.sizes.Sizes.saved_cells.Reads as saved-cells-reads
-use Rattle.motion.proofs.area.Area.well_formed.Reads as area-Area-well-formed-reads
-use Rattle.motion.proofs.fields.are_lent.Reads as are-lent-reads
-use Rattle.motion.proofs.fields.are_long.Reads as are-long-reads
-use Rattle.motion.proofs.used.uses_of.Reads as uses-of-reads
 
--- src/load.rt:25:9
 well-formed-requires : tie.Need-well-formed-requires
 well-formed-requires c κs = search needs
 
--- src/load.rt:26:9
 returns : tie.Need-returns
 unfolding loadFront
 returns c = rw (← c .before .well-formed .ensures, not-true (c .before .well-formed .result) (c .if1 .taken))
 
--- src/load.rt:28:19
 slice-aggregate-all-under : tie.Need-slice-aggregate-all-under
 slice-aggregate-all-under c = search needs
 
--- src/load.rt:28:9
 all-under-requires : tie.Need-all-under-requires
 all-under-requires c κs = search needs
 
--- src/load.rt:29:9
 returns-2 : tie.Need-returns-2
 unfolding loadFront
 returns-2 c = rw (← c .before .before .before .before .well-formed .ensures, not-false (c .before .before .before .before .well-formed .result) (c .before .before .before .if1 .left), ← c .before .all-under .ensures, not-true (c .before .all-under .result) (c .if2 .taken))
 
--- src/load.rt:32:9
 well-formed-requires-2 : tie.Need-well-formed-requires-2
 well-formed-requires-2 c κs = search needs
 
--- src/load.rt:33:9
 returns-3 : tie.Need-returns-3
 unfolding loadFront
 returns-3 c = rw (← c .before .before .before .before .before .before .before .well-formed .ensures, not-false (c .before .before .before .before .before .before .before .well-formed .result) (c .before .before .before .before .before .before .if1 .left), ← c .before .before .before .before .all-under .ensures, not-false (c .before .before .before .before .all-under .result) (c .before .before .before .if2 .left), ← c .before .well-formed2 .ensures, not-true (c .before .well-formed2 .result) (c .if3 .taken))
 
--- src/load.rt:35:20
 projected-cells-requires : tie.Need-projected-cells-requires
 projected-cells-requires c κs = frame-sizes (c .before .before .before .before .before .before .before .before .args .f) (sym (c .before .before .before .before .before .before .before .well-formed .ensures) ∙ not-false (c .before .before .before .before .before .before .before .well-formed .result) (c .before .before .before .before .before .before .if1 .left))
 
--- src/load.rt:35:16
 mul-if4 : tie.Need-mul-if4
 unfolding projectedCells
 mul-if4 c = let m = blocks-fit _ (fits _ (frame-sizes (c .before .before .before .before .before .before .before .before .before .args .f) (sym (c .before .before .before .before .before .before .before .before .well-formed .ensures) ∙ not-false (c .before .before .before .before .before .before .before .before .well-formed .result) (c .before .before .before .before .before .before .before .if1 .left)))) in record { fits = omega (arith, c .projected-cells .ensures) }
 
--- src/load.rt:36:9
 returns-4 : tie.Need-returns-4
 unfolding loadFront
 returns-4 c = rw (← c .before .before .before .before .before .before .before .before .before .well-formed .ensures, not-false (c .before .before .before .before .before .before .before .before .before .well-formed .result) (c .before .before .before .before .before .before .before .before .if1 .left), ← c .before .before .before .before .before .before .all-under .ensures, not-false (c .before .before .before .before .before .before .all-under .result) (c .before .before .before .before .before .if2 .left), ← c .before .before .before .well-formed2 .ensures, not-false (c .before .before .before .well-formed2 .result) (c .before .before .if3 .left), ← c .before .projected-cells .ensures, lt-ltb _ _ (c .if4 .taken))
 
--- src/load.rt:38:9
 uses-of-requires : tie.Need-uses-of-requires
 uses-of-requires c κs = (sym (c .before .before .before .before .before .before .before .before .before .well-formed .ensures) ∙ not-false (c .before .before .before .before .before .before .before .before .before .well-formed .result) (c .before .before .before .before .before .before .before .before .if1 .left))
 
--- src/load.rt:39:22
 saved-cells-requires : tie.Need-saved-cells-requires
 saved-cells-requires c κs = frame-sizes (c .before .before .before .before .before .before .before .before .before .before .before .args .f) (sym (c .before .before .before .before .before .before .before .before .before .before .well-formed .ensures) ∙ not-false (c .before .before .before .before .before .before .before .before .before .before .well-formed .result) (c .before .before .before .before .before .before .before .before .before .if1 .left))
 
--- src/load.rt:39:18
 mul-are-long : tie.Need-mul-are-long
 unfolding savedCells
 mul-are-long c = let m = saved-most _ (fits _ (frame-sizes (c .before .before .before .before .before .before .before .before .before .before .before .before .args .f) (sym (c .before .before .before .before .before .before .before .before .before .before .before .well-formed .ensures) ∙ not-false (c .before .before .before .before .before .before .before .before .before .before .before .well-formed .result) (c .before .before .before .before .before .before .before .before .before .before .if1 .left)))) in record { fits = omega (arith, c .saved-cells .ensures) }
 
--- src/load.rt:39:9
 are-long-requires : tie.Need-are-long-requires
 are-long-requires c κs = able-fields _ (c .before .uses-of .ensures) (sym (c .before .before .before .before .before .before .before .before .before .before .before .well-formed .ensures) ∙ not-false (c .before .before .before .before .before .before .before .before .before .before .before .well-formed .result) (c .before .before .before .before .before .before .before .before .before .before .if1 .left))
 
--- src/load.rt:40:9
 returns-5 : tie.Need-returns-5
 unfolding loadFront
 returns-5 c = rw (← c .before .before .before .before .before .before .before .before .before .before .before .before .before .well-formed .ensures, not-false (c .before .before .before .before .before .before .before .before .before .before .before .before .before .well-formed .result) (c .before .before .before .before .before .before .before .before .before .before .before .before .if1 .left), ← c .before .before .before .before .before .before .before .before .before .before .all-under .ensures, not-false (c .before .before .before .before .before .before .before .before .before .before .all-under .result) (c .before .before .before .before .before .before .before .before .before .if2 .left), ← c .before .before .before .before .before .before .before .well-formed2 .ensures, not-false (c .before .before .before .before .before .before .before .well-formed2 .result) (c .before .before .before .before .before .before .if3 .left), ← c .before .before .before .before .before .projected-cells .ensures, le-ltb _ _ (c .before .before .before .before .if4 .left), ← c .before .before .before .uses-of .ensures, ← c .before .before .saved-cells .ensures, ← c .before .are-long .ensures, not-true (c .before .are-long .result) (c .if5 .taken))
 
--- src/load.rt:42:8
 are-lent-requires : tie.Need-are-lent-requires
 are-lent-requires c κs = able-fields _ (c .before .before .before .uses-of .ensures) (sym (c .before .before .before .before .before .before .before .before .before .before .before .before .before .well-formed .ensures) ∙ not-false (c .before .before .before .before .before .before .before .before .before .before .before .before .before .well-formed .result) (c .before .before .before .before .before .before .before .before .before .before .before .before .if1 .left))
 
--- src/load.rt:22:1
 returns-6 : tie.Need-returns-6
 unfolding loadFront
 returns-6 c = rw (← c .before .before .before .before .before .before .before .before .before .before .before .before .before .before .before .well-formed .ensures, not-false (c .before .before .before .before .before .before .before .before .before .before .before .before .before .before .before .well-formed .result) (c .before .before .before .before .before .before .before .before .before .before .before .before .before .before .if1 .left), ← c .before .before .before .before .before .before .before .before .before .before .before .before .all-under .ensures, not-false (c .before .before .before .before .before .before .before .before .before .before .before .before .all-under .result) (c .before .before .before .before .before .before .before .before .before .before .before .if2 .left), ← c .before .before .before .before .before .before .before .before .before .well-formed2 .ensures, not-false (c .before .before .before .before .before .before .before .before .before .well-formed2 .result) (c .before .before .before .before .before .before .before .before .if3 .left), ← c .before .before .before .before .before .before .before .projected-cells .ensures, le-ltb _ _ (c .before .before .before .before .before .before .if4 .left), ← c .before .before .before .before .before .uses-of .ensures, ← c .before .before .before .before .saved-cells .ensures, ← c .before .before .before .are-long .ensures, not-false (c .before .before .before .are-long .result) (c .before .before .if5 .left), ← c .before .are-lent .ensures, c .if6 .taken)
 
--- src/load.rt:22:1
 returns-7 : tie.Need-returns-7
 unfolding loadFront
 returns-7 c = rw (← c .before .before .before .before .before .before .before .before .before .before .before .before .before .before .before .well-formed .ensures, not-false (c .before .before .before .before .before .before .before .before .before .before .before .before .before .before .before .well-formed .result) (c .before .before .before .before .before .before .before .before .before .before .before .before .before .before .if1 .left), ← c .before .before .before .before .before .before .before .before .before .before .before .before .all-under .ensures, not-false (c .before .before .before .before .before .before .before .before .before .before .before .before .all-under .result) (c .before .before .before .before .before .before .before .before .before .before .before .if2 .left), ← c .before .before .before .before .before .before .before .before .before .well-formed2 .ensures, not-false (c .before .before .before .before .before .before .before .before .before .well-formed2 .result) (c .before .before .before .before .before .before .before .before .if3 .left), ← c .before .before .before .before .before .before .before .projected-cells .ensures, le-ltb _ _ (c .before .before .before .before .before .before .if4 .left), ← c .before .before .before .before .before .uses-of .ensures, ← c .before .before .before .before .saved-cells .ensures, ← c .before .before .before .are-long .ensures, not-false (c .before .before .before .are-long .result) (c .before .before .if5 .left), ← c .before .are-lent .ensures, c .if6 .left)

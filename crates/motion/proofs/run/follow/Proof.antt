@@ -1,41 +1,27 @@
-use denote.Ref.{now}
-use borrow.Author.Tests.{not-true, not-false}
-use Rattle.motion.proofs.Landings.{gone, there, run-gone, run-there, still-absent, still-apart, skipped, saved-ref, saved-near}
-use Rattle.cells.specs.declared.cell.Cell.{Cell}
+-- `motion::run::follow` meets its contract.
+-- Assumes nothing.
+use Rattle.motion.proofs.Landings.{still-absent, still-apart, skipped, saved-ref, saved-near}
 use Rattle.cells.specs.Cell.{wellSaved}
-use Rattle.motion.specs.Places.{Taken}
 use Rattle.motion.specs.Lands.{landing}
-use Rattle.motion.specs.Load.{firstSource, endSource, lane, rowScript, cellRead, sourcesRead, wipe, clearRow, sourceAt}
-use Prim.Native.Nat.{ℕ, _+_, _-_, _*_, _/_, _%_, _≤_, _<_}
+use Rattle.motion.specs.Load.{lane, sourceAt}
 use native.Mathlib.Omega.{arith}
-use mathlib.Core.Path.{_≡_, refl, sym, ap, ap₂, _∙_, subst, subst⁻¹}
+use mathlib.Core.Path.{sym, ap, _∙_}
 use borrow.Author.Needs.{needs}
 use Rattle.motion.proofs.run.follow.Statement.{statement}
 use Rattle.motion.proofs.run.follow.Tie as tie
-use Rattle.motion.proofs.run.follow.Reads as reads
-use Rattle.motion.proofs.run.follow.Lts as lts
-use Rattle.cells.proofs.cell.Cell.read.Reads as read-reads
-use Rattle.cells.proofs.cell.Cell.saved_absent.Reads as saved-absent-reads
-use Rattle.motion.proofs.land.apart_of.Reads as apart-of-reads
-use Rattle.motion.proofs.run.take_run.Reads as take-run-reads
 
--- src/run.rt:97:29
 add-read : tie.Need-add-read
 add-read c = search needs
 
--- src/run.rt:97:9
 read-requires : tie.Need-read-requires
 read-requires c κs = search needs
 
--- src/run.rt:98:8
 saved-absent-requires : tie.Need-saved-absent-requires
 saved-absent-requires c κs = search needs
 
--- src/run.rt:99:16
 add-result : tie.Need-add-result
 add-result c = search needs
 
--- src/run.rt:99:9
 returns : tie.Need-returns
 unfolding lane sourceAt
 returns c =
@@ -43,7 +29,6 @@ returns c =
     let r = c .before .before .read in
     ((omega arith, omega arith), skipped _ _ _ (ap (landing (s .args .w) (s .args .m) (s .args .y) (s .args .x)) (sym (r .ensures)) ∙ still-absent _ _ _ _ _ (sym (c .before .saved-absent .ensures) ∙ c .if1 .taken)))
 
--- src/run.rt:101:9
 apart-of-requires : tie.Need-apart-of-requires
 unfolding sourceAt
 apart-of-requires c κs =
@@ -51,11 +36,9 @@ apart-of-requires c κs =
     let s = c .before .before .before .before .before in
     saved-ref _ (ap wellSaved (r .ensures) ∙ s .pre .1) (sym (c .before .saved-absent .ensures) ∙ c .if1 .left)
 
--- src/run.rt:103:16
 add-result-2 : tie.Need-add-result-2
 add-result-2 c = search needs
 
--- src/run.rt:103:9
 returns-2 : tie.Need-returns-2
 unfolding lane sourceAt
 returns-2 c =
@@ -63,7 +46,6 @@ returns-2 c =
     let r = c .before .before .before .before .read in
     ((omega arith, omega arith), skipped _ _ _ (ap (landing (s .args .w) (s .args .m) (s .args .y) (s .args .x)) (sym (r .ensures)) ∙ still-apart _ _ _ _ _ (sym (c .before .apart-of .ensures) ∙ c .if2 .taken)))
 
--- src/run.rt:105:5
 take-run-requires : tie.Need-take-run-requires
 unfolding sourceAt
 take-run-requires c κs =
@@ -74,11 +56,9 @@ take-run-requires c κs =
     let n = sym (e .before .saved-absent .ensures) ∙ e .if1 .left in
     (s .pre .0, (record { some = n; is = a .ensures; apart = omega (arith, c .before .if2 .left); near = saved-near _ (ap wellSaved (r .ensures) ∙ s .pre .1) n }, r .ensures))
 
--- src/run.rt:82:1
 same-length : tie.Need-same-length
 same-length c = search needs
 
--- src/run.rt:82:1
 returns-3 : tie.Need-returns-3
 returns-3 c = search needs
 

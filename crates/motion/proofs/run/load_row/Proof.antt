@@ -1,19 +1,16 @@
+-- `motion::run::load_row` meets its contract.
+-- Assumes nothing.
 use lib.ListN.{length}
-use Rattle.ground.specs.Span.{span, firstOf}
+use Rattle.ground.specs.Span.{span}
 use Rattle.ground.specs.Script.{run}
 use Rattle.ground.proofs.Spans.{start, more, on, stop}
-use Rattle.motion.specs.Load.{firstSource, endSource, lane, rowScript, cellRead, sourcesRead, wipe, clearRow, sourceAt}
+use Rattle.motion.specs.Load.{firstSource, lane, rowScript, sourceAt}
 use borrow.Author.Needs.{needs}
-use Prim.Native.Nat.{ℕ, _+_, _-_, _*_, _/_, _%_, _≤_, _<_}
+use Prim.Native.Nat.{_+_, _-_, _≤_}
 use native.Mathlib.Omega.{arith}
-use mathlib.Core.Path.{_≡_, refl, sym, ap, ap₂, _∙_, subst, subst⁻¹}
+use mathlib.Core.Path.{_≡_, refl, _∙_}
 use Rattle.motion.proofs.run.load_row.Statement.{statement}
 use Rattle.motion.proofs.run.load_row.Tie as tie
-use Rattle.motion.proofs.run.load_row.Reads as reads
-use Rattle.motion.proofs.run.load_row.Lts as lts
-use Rattle.motion.proofs.run.follow.Reads as follow-reads
-use Rattle.motion.proofs.source.source_end.Reads as source-end-reads
-use Rattle.motion.proofs.source.source_start.Reads as source-start-reads
 
 abbrev Inv-loop : tie.InvT-loop
 Inv-loop src proj₀ w m y first end x₀ proj x = (firstSource w ≤ x) × (x ≤ firstSource w + (end - firstSource w)) × (length proj ≡ length proj₀) × (proj ≡ run (span (lane (sourceAt src first) w m y) (firstSource w) x) proj₀)
@@ -21,25 +18,20 @@ Inv-loop src proj₀ w m y first end x₀ proj x = (firstSource w ≤ x) × (x �
 abbrev μ-loop : tie.MeasureT-loop
 μ-loop src proj₀ w m y first end x₀ proj x = end - x
 
--- src/run.rt:115:17
 mul-first : tie.Need-mul-first Inv-loop μ-loop
 mul-first c = let b = c .before .before .before .pre .0 in omega (arith, b .source)
 
--- src/run.rt:116:9
 source-end-requires : tie.Need-source-end-requires Inv-loop μ-loop
 source-end-requires c κs = let b = c .before .before .before .pre .0 .bounded in omega arith
 
--- src/run.rt:117:9
 source-start-requires : tie.Need-source-start-requires Inv-loop μ-loop
 source-start-requires c κs = search needs
 
--- src/run.rt:118:5
 loop-holds : tie.Need-loop-holds Inv-loop μ-loop
 loop-holds c =
     let e = c .source-start .ensures in
     (omega arith, omega arith, refl, stop _ _ _ _ (omega arith) _ (start _ _ _))
 
--- src/run.rt:119:9
 follow-requires : tie.Need-follow-requires Inv-loop μ-loop
 follow-requires c κs =
     let s = c .before .before .before .before .before .before .before .before in
@@ -59,22 +51,18 @@ follow-requires c κs =
       s .pre .1 .1 _ (i .0) (omega arith),
     )
 
--- src/run.rt:118:5
 loop-less : tie.Need-loop-less Inv-loop μ-loop
 loop-less c = search needs
 
--- src/run.rt:118:5
 loop-again : tie.Need-loop-again Inv-loop μ-loop
 loop-again c =
     let l = c .before .before .before .before .before .loop in
     let f = c .before .before .follow in
     (omega arith, omega arith, f .kept .1 .1 .0 ∙ l .inv .2, on _ _ _ _ (l .inv .0) (omega arith) _ (l .inv .3) (f .ensures .1))
 
--- src/run.rt:109:1
 same-length : tie.Need-same-length Inv-loop μ-loop
 same-length c = search needs
 
--- src/run.rt:109:1
 returns : tie.Need-returns Inv-loop μ-loop
 unfolding rowScript
 returns c =

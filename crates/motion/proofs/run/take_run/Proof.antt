@@ -1,49 +1,35 @@
+-- `motion::run::take_run` meets its contract.
+-- Assumes nothing.
 use Rattle.ground.specs.Script.{Patch}
 use mathlib.Core.List.{List}
-use Rattle.ground.proofs.Bits.{fits-abs}
-use mir.Facts.{toZ-ofZ}
-use lib.IntN.{ℤ, natAbs}
-use Rattle.motion.specs.Lands.{landing}
+use lib.IntN.{natAbs}
 use Rattle.motion.proofs.Placed.{near-in}
-use denote.Ref.{now}
 use borrow.Author.Tests.{not-true, not-false}
-use Rattle.motion.proofs.Landings.{gone, there, run-gone, run-there, still-absent, still-apart, skipped, saved-ref, saved-near}
+use Rattle.motion.proofs.Landings.{gone, there, run-gone, run-there}
 use Rattle.cells.specs.declared.cell.Cell.{Cell}
 use Rattle.ground.proofs.Products.{row-fits}
-use Rattle.motion.specs.Places.{shift, near, stamp, apartBy, Shifted, Run, Taken}
-use Prim.Native.Nat.{ℕ, _+_, _-_, _*_, _/_, _%_, _≤_, _<_}
+use Rattle.motion.specs.Places.{near, stamp}
+use Prim.Native.Nat.{ℕ, _+_, _-_, _*_, _%_, _≤_}
 use native.Mathlib.Omega.{arith}
-use mathlib.Core.Path.{_≡_, refl, sym, ap, ap₂, _∙_, subst, subst⁻¹}
+use mathlib.Core.Path.{sym, ap, _∙_}
 use borrow.Author.Needs.{needs}
 use Rattle.motion.proofs.run.take_run.Statement.{statement}
 use Rattle.motion.proofs.run.take_run.Tie as tie
-use Rattle.motion.proofs.run.take_run.Reads as reads
-use Rattle.motion.proofs.run.take_run.Lts as lts
-use Rattle.motion.proofs.land.is_near.Reads as is-near-reads
-use Rattle.motion.proofs.land.land_run.Reads as land-run-reads
-use Rattle.motion.proofs.land.shifts.Reads as shifts-reads
-use Rattle.motion.proofs.run.run_end.Reads as run-end-reads
-use Rattle.motion.proofs.run.with_distance.Reads as with-distance-reads
 
--- src/run.rt:77:9
 shifts-requires : tie.Need-shifts-requires
 shifts-requires c κs =
     let s = c .before .before in
     ((s .pre .1 .0 .apart, omega (arith, s .pre .1 .0 .is, s .pre .0 .numbers .apart (natAbs (s .args .c .reference .0) - 1)), s .pre .0 .numbers .cur), s .pre .1 .0 .near)
 
--- src/run.rt:78:9
 run-end-requires : tie.Need-run-end-requires
 run-end-requires c κs = search needs
 
--- src/run.rt:79:13
 add-p : tie.Need-add-p
 add-p c = search needs
 
--- src/run.rt:80:9
 is-near-requires : tie.Need-is-near-requires
 is-near-requires c κs = search needs
 
--- src/run.rt:81:9
 returns : tie.Need-returns
 returns c =
     let s = c .before .before .before .before .before .before .before in
@@ -51,7 +37,6 @@ returns c =
     let r = sym (c .before .is-near .ensures) ∙ not-true _ (c .if1 .taken) in
     ((u .past, u .upto), run-gone _ _ _ _ u _ (gone _ _ _ _ _ (s .pre .1 .0) _ (c .before .before .before .before .shifts .ensures) r))
 
--- src/run.rt:83:25
 -- the row is in reach, and its cells are in the buffer
 reached : (c : tie.Else1) →
     let a = c .before .before .before .before .before .before .before .args in
@@ -66,21 +51,17 @@ reached c =
 sub-row : tie.Need-sub-row
 sub-row c = reached c .0
 
--- src/run.rt:83:24
 mul-row : tie.Need-mul-row
 mul-row c = omega (arith, reached (c .before))
 
--- src/run.rt:83:15
 add-row : tie.Need-add-row
 add-row c = omega (arith, reached (c .before .before))
 
--- src/run.rt:84:33
 with-distance-requires : tie.Need-with-distance-requires
 with-distance-requires c κs =
     let s = c .before .before .before .before .before .before .before .before .before .before in
     omega (arith, s .pre .1 .0 .is, s .pre .0 .numbers .apart (natAbs (s .args .c .reference .0) - 1))
 
--- src/run.rt:84:5
 land-run-requires : tie.Need-land-run-requires
 land-run-requires c κs =
     let r = reached (c .before .before .before .before) in
@@ -89,11 +70,9 @@ land-run-requires c κs =
     let u = c .before .before .before .before .before .before .before .run-end .ensures in
     (omega (arith, r, g .bounded .wide, g .target), omega (arith, u .past), omega (arith, u .upto, g .upto, g .bounded .narrow), omega (arith, g .bounded .cols, g .bounded .wide, g .bounded .narrow), omega (arith, g .bounded .wide, g .bounded .narrow), c .before .before .before .before .before .before .before .before .shifts .ensures .short .1)
 
--- src/run.rt:59:1
 same-length : tie.Need-same-length
 same-length c = search needs
 
--- src/run.rt:59:1
 returns-2 : tie.Need-returns-2
 returns-2 c =
     let e = c .before .before .before .before .before .before .before in

@@ -1,25 +1,21 @@
+-- `motion::step::load_ref` meets its contract.
+-- Assumes nothing.
 use Rattle.ground.specs.Script.{run}
-use lib.ListN.{length, getD}
-use mathlib.Core.List.{List, []}
+use lib.ListN.{length}
+use mathlib.Core.List.{List}
 use denote.Ref.{now}
-use Rattle.motion.proofs.Steps.{sound, within, row-held, length-at, clears-read, clears, takes-read, takes, front}
-use Rattle.motion.specs.Load.{lengthsOf, lent, sources, sourceAt, sourcesRead, refRow, rowScript, rowsOf, stepsOf, stepScript, stepRead, loadFront, loadAnswer, loadScript}
-use Prim.Native.Nat.{ℕ, _+_, _-_, _*_, _/_, _%_, _≤_, _<_}
+use Rattle.motion.proofs.Steps.{sound, row-held, length-at}
+use Rattle.motion.specs.Load.{lent, sourceAt, sourcesRead, refRow, rowScript}
+use Prim.Native.Nat.{ℕ, _*_}
 use native.Mathlib.Omega.{arith}
-use mathlib.Core.Path.{_≡_, refl, sym, ap, ap₂, _∙_, subst, subst⁻¹}
+use mathlib.Core.Path.{ap, _∙_}
 use borrow.Author.Needs.{needs}
 use Rattle.motion.proofs.step.load_ref.Statement.{statement}
 use Rattle.motion.proofs.step.load_ref.Tie as tie
-use Rattle.motion.proofs.step.load_ref.Reads as reads
-use Rattle.motion.proofs.step.load_ref.Lts as lts
-use Rattle.motion.proofs.fields.field_of.Reads as field-of-reads
-use Rattle.motion.proofs.run.load_row.Reads as load-row-reads
 
--- src/step.rt:109:14
 field-of-requires : tie.Need-field-of-requires
 field-of-requires c κs = search needs
 
--- src/step.rt:109:5
 load-row-requires : tie.Need-load-row-requires
 load-row-requires c κs =
     let s = c .before .before .before .before .before .before .before .before .before .before .before in
@@ -30,11 +26,9 @@ load-row-requires c κs =
     let n = length-at (lent (now (s .args .f0)) (now (s .args .f1)) (now (s .args .f2)) (now (s .args .f3)) (now (s .args .f4)) (now (s .args .f5)) (now (s .args .f6))) (s .args .u .field) in
     (record { bounded = w; over = s .pre .0 .2; under = s .pre .0 .3; source = omega (arith, q, n, k, s .pre .0 .1 .source); target = s .pre .0 .4 }, (s .pre .0 .1 .numbers, sound _ (s .args .w) (ap (λ (l : List ℕ). sourcesRead (sourceAt l (s .args .y * s .args .w .stride)) (s .args .w)) e ∙ s .pre .1)))
 
--- src/step.rt:91:1
 same-length : tie.Need-same-length
 same-length c = search needs
 
--- src/step.rt:91:1
 returns : tie.Need-returns
 unfolding refRow
 returns c =

@@ -1,66 +1,49 @@
-use lib.ListN.{length, getD}
-use mathlib.Core.List.{List, []}
+-- `motion::step::load_step` meets its contract.
+-- Assumes nothing.
+use mathlib.Core.List.{List}
 use denote.Ref.{now}
 use Rattle.ground.specs.Script.{Patch, run}
-use Rattle.motion.proofs.Steps.{sound, within, row-held, length-at, clears-read, clears, takes-read, takes, front}
-use Rattle.motion.specs.Load.{lengthsOf, lent, sources, sourceAt, sourcesRead, refRow, rowScript, rowsOf, stepsOf, stepScript, stepRead, loadFront, loadAnswer, loadScript}
-use Prim.Native.Nat.{ℕ, _+_, _-_, _*_, _/_, _%_, _≤_, _<_}
+use Rattle.motion.proofs.Steps.{within, clears, takes-read, takes}
 use native.Mathlib.Omega.{arith}
-use mathlib.Core.Path.{_≡_, refl, sym, ap, ap₂, _∙_, subst, subst⁻¹}
+use mathlib.Core.Path.{ap, _∙_}
 use borrow.Author.Needs.{needs}
 use Rattle.motion.proofs.step.load_step.Statement.{statement}
 use Rattle.motion.proofs.step.load_step.Tie as tie
-use Rattle.motion.proofs.step.load_step.Reads as reads
-use Rattle.motion.proofs.step.load_step.Lts as lts
-use Rattle.motion.proofs.clear.clear_row.Reads as clear-row-reads
-use Rattle.motion.proofs.step.load_ref.Reads as load-ref-reads
-use Rattle.motion.proofs.step.rows_of.Reads as rows-of-reads
 
--- src/step.rt:130:9
 rows-of-requires : tie.Need-rows-of-requires
 rows-of-requires c κs = search needs
 
--- src/step.rt:131:16
 div-pass : tie.Need-div-pass
 div-pass c = let s = c .before .before .before .before .before .before .before .before .before in let i = within _ _ _ (c .rows-of .ensures) (s .pre .0 .1) in i .some
 
--- src/step.rt:132:21
 rem-y : tie.Need-rem-y
 rem-y c = let s = c .before .before .before .before .before .before .before .before .before in let i = within _ _ _ (c .rows-of .ensures) (s .pre .0 .1) in i .some
 
--- src/step.rt:132:13
 add-y : tie.Need-add-y
 add-y c = let s = c .before .before .before .before .before .before .before .before .before .before in let i = within _ _ _ (c .before .rows-of .ensures) (s .pre .0 .1) in omega (arith, i .under, s .pre .0 .0 .bounded .low)
 
--- src/step.rt:134:9
 clear-row-requires : tie.Need-clear-row-requires
 clear-row-requires c κs =
     let s = c .before .before .before .before .before .before .before .before .before .before .before .before in
     (s .pre .0 .0 .bounded .cols, s .pre .0 .0 .bounded .wide, s .pre .0 .2)
 
--- src/step.rt:135:9
 same-length : tie.Need-same-length
 same-length c = search needs
 
--- src/step.rt:135:9
 returns : tie.Need-returns
 returns c =
     let s = c .before .before .before .before .before .before .before .before .before .before .before .before .before .before .before in
     c .before .before .clear-row .ensures ∙ ap (λ (p : List Patch). run p (now (s .args .proj))) (clears _ _ _ _ (c .before .before .before .before .before .before .rows-of .ensures) (c .before .before .before .before .if1 .taken))
 
--- src/step.rt:138:17
 sub-load-ref : tie.Need-sub-load-ref
 sub-load-ref c = search needs
 
--- src/step.rt:138:14
 mul-load-ref : tie.Need-mul-load-ref
 mul-load-ref c = let s = c .before .before .before .before .before .before .before .before .before .before .before .before in let i = within _ _ _ (c .before .before .before .rows-of .ensures) (s .pre .0 .1) in let g = s .pre .0 .0 .few in search needs
 
--- src/step.rt:138:14
 array-copy-out-load-ref : tie.Need-array-copy-out-load-ref
 array-copy-out-load-ref c = let s = c .before .before .before .before .before .before .before .before .before .before .before .before in let i = within _ _ _ (c .before .before .before .rows-of .ensures) (s .pre .0 .1) in omega (arith, i .pass, s .pre .0 .0 .few, c .before .if1 .left)
 
--- src/step.rt:138:5
 load-ref-requires : tie.Need-load-ref-requires
 load-ref-requires c κs =
     let s = c .before .before .before .before .before .before .before .before .before .before .before .before .before .before in
@@ -68,11 +51,9 @@ load-ref-requires c κs =
     let i = within _ _ _ e (s .pre .0 .1) in
     ((s .pre .0 .0 .bounded, s .pre .0 .0 .each _ (omega (arith, i .pass, c .before .before .before .if1 .left)), omega arith, i .under, s .pre .0 .2), takes-read _ _ _ _ e (c .before .before .before .if1 .left) ∙ s .pre .1)
 
--- src/step.rt:113:1
 same-length-2 : tie.Need-same-length-2
 same-length-2 c = search needs
 
--- src/step.rt:113:1
 returns-2 : tie.Need-returns-2
 returns-2 c =
     let s = c .before .before .before .before .before .before .before .before .before .before .before .before .before .before .before .before .before in

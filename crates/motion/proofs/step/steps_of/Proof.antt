@@ -1,25 +1,20 @@
+-- `motion::step::steps_of` meets its contract.
+-- Assumes nothing.
 use native.Mathlib.Nat.{mul-le-mul}
-use Rattle.motion.specs.Load.{lengthsOf, lent, sources, sourceAt, sourcesRead, refRow, rowScript, rowsOf, stepsOf, stepScript, stepRead, loadFront, loadAnswer, loadScript}
-use Prim.Native.Nat.{ℕ, _+_, _-_, _*_, _/_, _%_, _≤_, _<_}
-use Rattle.motion.specs.Load.{lengthsOf, lent, sources, sourcesRead, refRow, rowsOf, stepsOf, stepScript, stepRead, loadFront, loadAnswer, loadScript}
+use Rattle.motion.specs.Load.{rowsOf, stepsOf}
+use Prim.Native.Nat.{ℕ, _+_, _-_, _*_, _≤_}
 use native.Mathlib.Omega.{arith}
-use mathlib.Core.Path.{_≡_, refl, sym, ap, ap₂, _∙_, subst, subst⁻¹}
+use mathlib.Core.Path.{_≡_, ap}
 use borrow.Author.Needs.{needs}
 use Rattle.motion.proofs.step.steps_of.Statement.{statement}
 use Rattle.motion.proofs.step.steps_of.Tie as tie
-use Rattle.motion.proofs.step.steps_of.Reads as reads
-use Rattle.motion.proofs.step.steps_of.Lts as lts
-use Rattle.motion.proofs.step.rows_of.Reads as rows-of-reads
 
--- src/step.rt:30:6
 add-result : tie.Need-add-result
 add-result c = search needs
 
--- src/step.rt:30:18
 rows-of-requires : tie.Need-rows-of-requires
 rows-of-requires c κs = search needs
 
--- src/step.rt:30:5
 few : (n : ℕ) → n ≤ 3 → 1 + n ≤ 4
 few n h = omega arith
 
@@ -33,7 +28,6 @@ mul-result c =
     let e = c .rows-of .ensures in
     let m = mul-le-mul {n₂ = 4} {m₂ = 65536} (few (s .args .us .n) (s .pre .0)) (rows _ e (s .pre .1)) in omega arith
 
--- src/step.rt:26:1
 returns : tie.Need-returns
 unfolding stepsOf
 returns c = ap (λ (r : ℕ). (1 + c .before .before .args .us .n) * r) (c .rows-of .ensures)

@@ -1,11 +1,10 @@
+-- `motion::used::no_uses` meets its contract.
+-- Assumes nothing.
 use Rattle.motion.specs.Used.{heldAs}
-use mathlib.Core.Path.{_≡_, refl, sym, ap, ap₂, _∙_, subst, subst⁻¹}
+use mathlib.Core.Path.{refl}
 use Rattle.motion.proofs.used.no_uses.Statement.{statement}
 use Rattle.motion.proofs.used.no_uses.Tie as tie
-use Rattle.motion.proofs.used.no_uses.Reads as reads
-use Rattle.motion.proofs.used.no_uses.Lts as lts
 
--- src/used.rt:62:1
 returns : tie.Need-returns
 unfolding heldAs
 returns c = refl

@@ -1,37 +1,29 @@
+-- `motion::used::take_in` meets its contract.
+-- Assumes nothing.
 use Rattle.motion.specs.Places.{pushed, takenIn}
 use Rattle.motion.specs.Used.{usedAs}
 use mir.Syntax.{w16}
 use Rattle.ground.proofs.Bits.{same}
-use mathlib.Core.Path.{_≡_, refl, sym, ap, ap₂, _∙_, subst, subst⁻¹}
+use mathlib.Core.Path.{sym, ap, _∙_}
 use borrow.Author.Needs.{needs}
 use Rattle.motion.proofs.used.take_in.Statement.{statement}
 use Rattle.motion.proofs.used.take_in.Tie as tie
-use Rattle.motion.proofs.used.take_in.Reads as reads
-use Rattle.motion.proofs.used.take_in.Lts as lts
-use Rattle.motion.proofs.used.push.Reads as push-reads
-use Rattle.motion.proofs.used.use_of.Reads as use-of-reads
 
--- src/used.rt:57:29
 enum-told : tie.Need-enum-told
 enum-told c = search needs
 
--- src/used.rt:58:21
 enum-known-cur : tie.Need-enum-known-cur
 enum-known-cur c = search needs
 
--- src/used.rt:58:36
 use-of-requires : tie.Need-use-of-requires
 use-of-requires c κs = search needs
 
--- src/used.rt:58:27
 push-requires : tie.Need-push-requires
 push-requires c κs = search needs
 
--- src/used.rt:51:1
 returns : tie.Need-returns
 returns c = search needs
 
--- src/used.rt:51:1
 returns-2 : tie.Need-returns-2
 returns-2 c =
     let s = c .before .before .before .before .before in

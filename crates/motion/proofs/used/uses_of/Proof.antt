@@ -1,16 +1,14 @@
+-- `motion::used::uses_of` meets its contract.
+-- Assumes nothing.
 use Rattle.motion.specs.declared.used.Uses.{Uses}
 use Rattle.motion.proofs.Usings.{used-on, used-most, few-mfmvs}
 use Rattle.motion.specs.Used.{usedOf, used, heldAs}
 use borrow.Author.Needs.{needs}
-use Prim.Native.Nat.{ℕ, _+_, _-_, _*_, _/_, _%_, _≤_, _<_}
+use Prim.Native.Nat.{ℕ, _-_, _≤_}
 use native.Mathlib.Omega.{arith}
-use mathlib.Core.Path.{_≡_, refl, sym, ap, ap₂, _∙_, subst, subst⁻¹}
+use mathlib.Core.Path.{_≡_, ap, _∙_}
 use Rattle.motion.proofs.used.uses_of.Statement.{statement}
 use Rattle.motion.proofs.used.uses_of.Tie as tie
-use Rattle.motion.proofs.used.uses_of.Reads as reads
-use Rattle.motion.proofs.used.uses_of.Lts as lts
-use Rattle.motion.proofs.used.no_uses.Reads as no-uses-reads
-use Rattle.motion.proofs.used.take_in.Reads as take-in-reads
 
 abbrev Inv-loop : tie.InvT-loop
 Inv-loop f mfmvs us₀ i₀ us i = (i ≤ f .«n_mfmvs») × (us ≡ heldAs (usedOf (f .mfmvs) i))
@@ -18,24 +16,19 @@ Inv-loop f mfmvs us₀ i₀ us i = (i ≤ f .«n_mfmvs») × (us ≡ heldAs (use
 abbrev μ-loop : tie.MeasureT-loop
 μ-loop f mfmvs us₀ i₀ us i = f .«n_mfmvs» - i
 
--- src/used.rt:82:9
 no-uses-requires : tie.Need-no-uses-requires Inv-loop μ-loop
 no-uses-requires c κs = search needs
 
--- src/used.rt:84:5
 loop-holds : tie.Need-loop-holds Inv-loop μ-loop
 unfolding usedOf
 loop-holds c = (search needs, c .no-uses .ensures)
 
--- src/used.rt:85:26
 mul-take-in : tie.Need-mul-take-in Inv-loop μ-loop
 mul-take-in c = let s = c .before .before .before .before .before in let k = few-mfmvs _ (s .pre) in search needs
 
--- src/used.rt:85:26
 array-copy-out-take-in : tie.Need-array-copy-out-take-in Inv-loop μ-loop
 array-copy-out-take-in c = let s = c .before .before .before .before .before in omega (arith, few-mfmvs _ (s .pre))
 
--- src/used.rt:85:9
 take-in-requires : tie.Need-take-in-requires Inv-loop μ-loop
 unfolding heldAs
 take-in-requires c κs =
@@ -44,22 +37,18 @@ take-in-requires c κs =
     let e = ap (λ (u : Uses). u .n) (l .inv .1) in
     omega (arith, e, used-most (s .args .f .mfmvs) (l .i), few-mfmvs _ (s .pre))
 
--- src/used.rt:86:9
 add-i : tie.Need-add-i Inv-loop μ-loop
 add-i c = search needs
 
--- src/used.rt:84:5
 loop-less : tie.Need-loop-less Inv-loop μ-loop
 loop-less c = search needs
 
--- src/used.rt:84:5
 loop-again : tie.Need-loop-again Inv-loop μ-loop
 loop-again c =
     let s = c .before .before .before .before .before .before .before in
     let l = c .before .before .before .before .loop in
     (omega arith, used-on _ _ (l .inv .1) (omega (arith, used-most (s .args .f .mfmvs) (l .i), few-mfmvs _ (s .pre))) (c .take-in .ensures))
 
--- src/used.rt:77:1
 returns : tie.Need-returns Inv-loop μ-loop
 unfolding used
 returns c =
