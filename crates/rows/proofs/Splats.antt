@@ -8,12 +8,13 @@ use native.Mathlib.Numerals.{add-one, sub-one}
 use native.Mathlib.Nat.{mul-le-mul, le-refl}
 use native.Mathlib.Omega.{arith}
 use lib.Dec.{leb, ltb, eqb}
-use lib.ListN.{length, length-append}
-use borrow.Author.Tests.{leb-true, le-leb, lt-leb, ltb-false, not-false}
+use native.Mathlib.Decide.{decLt}
+use lib.ListN.{length, getD, length-append}
+use borrow.Author.Tests.{leb-true, le-leb, lt-leb, le-ltb, lt-ltb, ltb-false, not-false}
 use Rattle.ground.specs.Pick.{pick}
 use Rattle.ground.specs.Put.{put, copies}
 use Rattle.ground.specs.Script.{run, Inside}
-use Rattle.ground.proofs.Picks.{both}
+use Rattle.ground.proofs.Picks.{both, pick-true, pick-false}
 use Rattle.ground.proofs.Diffs.{Which, more, less, which}
 use Rattle.ground.proofs.Answers.{refused-not, both-accept, or-accepts, or-refuses, accepted-inside}
 use Rattle.ground.proofs.Puts.{copies-length}
@@ -23,7 +24,7 @@ use Rattle.cells.specs.Block.{blockBytes, wellBlock}
 use Rattle.rows.specs.declared.table.Place.{Place}
 use Rattle.rows.specs.declared.table.Place.the-variants.{Absent, At}
 use Rattle.rows.specs.declared.table.RowEntry.{RowEntry}
-use Rattle.rows.specs.Table.{placeAt}
+use Rattle.rows.specs.Table.{none, placeAt}
 use Rattle.frame.specs.declared.sizes.Sizes.{Sizes}
 use Rattle.frame.specs.declared.record.Frame.{Frame}
 use Rattle.frame.specs.Sizes.{oneTo, partOf, passesOf, records}
@@ -57,6 +58,22 @@ module _ (rows : List RowEntry) (total reach : ℕ) where
   unfolding rowsRead
   read-first e zero h z = absurd (omega arith)
   read-first e (suc n) h z = rw (add-one, sub-one) (both-accept (rowRead total reach (placeAt rows e)) (rowsRead rows total reach (suc e) n) z)
+
+-- an entry of the table is a place, and past the table there is none
+pub entry-at : (rows : List RowEntry) (e : ℕ) → e < 37 → getD rows e none .at ≡ placeAt rows e
+unfolding placeAt
+entry-at rows e h = sym (pick-true Absent (lt-ltb e 37 h))
+
+pub entry-past : (rows : List RowEntry) (total reach e : ℕ) → 37 ≤ e → 6 ≡ rowRead total reach (placeAt rows e)
+unfolding placeAt rowRead
+entry-past rows total reach e h = sym (ap (rowRead total reach) (pick-false (getD rows e none .at) (le-ltb e 37 h)))
+
+pub entry-there : (rows : List RowEntry) (total reach e : ℕ) → rowRead total reach (placeAt rows e) ≡ 0 → e < 37
+entry-there rows total reach e z = by (decLt e 37)
+  where
+    by : Dec (e < 37) → e < 37
+    by (yes l) = l
+    by (no l) = absurd (let k = entry-past rows total reach e (omega arith) in omega arith)
 
 -- a row that is there in part of a buffer is there in the whole
 pub row-there : (total reach : ℕ) (p : Place) (o : ℕ) → p ≡ At o → rowRead total reach p ≡ 0 → o + reach ≤ total

@@ -3,7 +3,6 @@ use crate::setup::Tile;
 use crate::setup::TileRange;
 use crate::table::Place;
 use crate::table::RowEntry;
-use crate::table::place_at;
 use cells::block::Block;
 use cells::pos::Pos4;
 use frame::record::Frame;
@@ -104,7 +103,8 @@ fn read_row(p: Place, total: usize, reach: usize) -> u8
 }
 
 // The first row that lacks something answers. reach is how many records a row needs from its start
-// on.
+// on. The entry is read here and not by `place_at`, which would be handed a copy of the table for
+// each row.
 fn read_rows(rows: [RowEntry; 37], total: usize, reach: usize, first: usize, n: usize) -> u8
     requires { ⌜ (reach ≤ total) × (first + n < 2 ^ 64) ⌝ }
     ensures { λ r. ⌜ r ≡ rowsRead rows total reach first n ⌝ }
@@ -112,7 +112,12 @@ fn read_rows(rows: [RowEntry; 37], total: usize, reach: usize, first: usize, n: 
     let mut e = first;
     let mut left = n;
     while 0 < left {
-        let a = read_row(place_at(rows, e), total, reach);
+        if 37 <= e {
+            return 6;
+        }
+        let entry = rows[e];
+        let at = entry.at;
+        let a = read_row(at, total, reach);
         if a != 0 {
             return a;
         }
@@ -178,7 +183,9 @@ fn write_rows(
     let mut e = first;
     let mut left = n;
     while 0 < left {
-        write_row(records, block, x, w, place_at(rows, e));
+        let entry = rows[e];
+        let at = entry.at;
+        write_row(records, block, x, w, at);
         e += 1;
         left -= 1;
     }
