@@ -24,6 +24,7 @@ use Rattle.rows.specs.declared.setup.RowSetup.{RowSetup}
 use Rattle.rows.specs.Setup.{tileOf, rowsAnswer, noTile, rowSetupOf}
 use Rattle.abi.specs.Framed.{whole, initLacks}
 use Rattle.abi.specs.Tiled.{splatLacks}
+use Rattle.abi.specs.Moved.{loadLacks}
 
 -- neither of two tests
 pub neither : (s t : Bool) → (s || t) ≡ false → (s ≡ false) × (t ≡ false)
@@ -102,6 +103,12 @@ room f t b e =
     let r = neither (ltb t 168) _ (q .1) in
     record { frame = ltb-false f 109 (q .0); tile = ltb-false t 168 (r .0); block = ltb-false b 12 (r .1) }
 
+-- a load's parts
+pub full : (f p : ℕ) → loadLacks f p ≡ false → (109 ≤ f) × (7 ≤ p)
+unfolding loadLacks
+full f p e = let q = neither (ltb f 109) _ e in (ltb-false f 109 (q .0), ltb-false p 7 (q .1))
+
+-- a call that lays a script of its own, where a part is too short, and where none is
 pub unlaid : (t : Bool) (n : ℕ) (ps : List Patch) (l : List ℕ) → t ≡ true → (4 ≡ pick t 4 n) × (l ≡ run (pick t [] ps) l)
 unfolding run
 unlaid t n ps l e = rw e (refl, refl)

@@ -4,3 +4,4 @@ pub mod FrameBytes
 pub mod Framed
 pub mod TileBytes
 pub mod Tiled
+pub mod Moved

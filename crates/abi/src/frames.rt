@@ -23,7 +23,7 @@ const HINTS: usize = 7;
 
 const HINTS_BY_REF: usize = 49;
 
-const PRESENT: usize = 7;
+pub(crate) const PRESENT: usize = 7;
 
 // Three numbers of four bytes.
 const LISTED: usize = 12;
@@ -37,7 +37,7 @@ fn copy_start(s: &[u8], to: &mut [u8])
     bytes::copy(&s[..end], to);
 }
 
-fn seven(s: &[u8]) -> [u8; 7]
+pub(crate) fn seven(s: &[u8]) -> [u8; 7]
     requires { ⌜ 7 ≤ length (now s) ⌝ }
     ensures { λ r. ⌜ r ≡ take 7 (now (s .entry)) ⌝ }
 {

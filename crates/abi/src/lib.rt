@@ -4,5 +4,6 @@
 mod frame_bytes;
 pub mod frames;
 pub mod leaves;
+pub mod motions;
 mod tile_bytes;
 pub mod tiles;
