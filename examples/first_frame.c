@@ -109,7 +109,6 @@ static void splat(const uint8_t *frame, const uint8_t *tile, uint8_t *records, s
            JASKKOVIR_BLOCK);
 }
 
-#ifdef JASKKOVIR_TMVS
 /* What the splatted block leaves in the saved field: row 4, column 6 is its first cell. */
 static void save(const uint8_t *frame, const uint8_t *records, size_t records_len, size_t cells)
 {
@@ -157,7 +156,6 @@ static void load(const uint8_t *frame, size_t saved, size_t projected)
     free(field);
     free(proj);
 }
-#endif
 
 int main(void)
 {
@@ -168,10 +166,8 @@ int main(void)
     size_t count = number(sizes + 8);
     uint8_t *records = lend(count, JASKKOVIR_RECORD_LEN);
     splat(frame, tile, records, count * JASKKOVIR_RECORD_LEN);
-#ifdef JASKKOVIR_TMVS
     save(frame, records, count * JASKKOVIR_RECORD_LEN, number(sizes));
     load(frame, number(sizes), number(sizes + 4));
-#endif
     free(records);
     return EXIT_SUCCESS;
 }

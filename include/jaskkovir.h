@@ -127,7 +127,6 @@ uint8_t jaskkovir_splat_mv(const uint8_t *frame, size_t frame_len, const uint8_t
                            size_t tile_len, const uint8_t *block, size_t block_len, size_t y,
                            size_t x, size_t w, size_t h, uint8_t *records, size_t records_len);
 
-#ifdef JASKKOVIR_TMVS
 /* Save: the cells of rows top..bottom and columns left..right (8-sample units, cut to the frame)
  * from the records that lie over them. The row table is that of the tile row, the superblock row sby
  * and the pass, 1 or 2.
@@ -149,7 +148,6 @@ uint8_t jaskkovir_load_tmvs(const uint8_t *frame, size_t frame_len, size_t tile_
                             const uint8_t *f3, size_t f3_len, const uint8_t *f4, size_t f4_len,
                             const uint8_t *f5, size_t f5_len, const uint8_t *f6, size_t f6_len,
                             uint8_t *proj, size_t proj_len);
-#endif
 
 #ifdef __cplusplus
 }

@@ -3,10 +3,8 @@
 
 mod frame;
 mod inputs;
-#[cfg(feature = "tmvs")]
 mod load;
 mod rows;
-#[cfg(feature = "tmvs")]
 mod save;
 mod splat;
 mod timing;
@@ -26,9 +24,7 @@ fn main() {
     println!("|---|---|---|---|---|");
     let mut timings: Vec<Timing> = vec![frame::setup(), rows::setup()];
     timings.extend(splat::all());
-    #[cfg(feature = "tmvs")]
     timings.extend(load::all());
-    #[cfg(feature = "tmvs")]
     timings.extend(save::all());
     for timing in timings {
         println!("{timing}");

@@ -2,20 +2,16 @@
 //! streams. Prints a line for each part, and fails on any difference.
 
 mod codec;
-#[cfg(feature = "tmvs")]
 mod fields;
 mod frames;
-#[cfg(feature = "tmvs")]
 mod layout;
 mod options;
 mod parts;
 mod records;
 mod stream;
-#[cfg(feature = "tmvs")]
 mod stream_tmvs;
 mod tally;
 mod traced;
-#[cfg(feature = "tmvs")]
 mod windows;
 
 use options::Options;

@@ -29,7 +29,6 @@ pub struct Stream {
 }
 
 /// The frame that is being decoded.
-#[cfg_attr(not(feature = "tmvs"), allow(dead_code))]
 pub struct Now {
     pub number: u16,
     pub record: FrameRecord,
@@ -52,12 +51,8 @@ impl Stream {
             (b'F', _) => self.set_up(body, tally),
             (b'R', Some(now)) => now.set_row(body, tally),
             (b'S', Some(now)) => now.splat(body, tally),
-            #[cfg(feature = "tmvs")]
             (b'L', Some(_)) => self.load(body, tally),
-            #[cfg(feature = "tmvs")]
             (b'V', Some(_)) => self.save(body, tally),
-            #[cfg(not(feature = "tmvs"))]
-            (b'L' | b'V', Some(_)) => Ok(Vec::new()),
             (b'Q', Some(_)) => Ok(Vec::new()),
             _ => Err("an event before the first frame".to_string()),
         }

@@ -1,7 +1,6 @@
 //! The bodies of a traced decoder's events.
 
 use crate::frames::Question;
-#[cfg(feature = "tmvs")]
 use jaskkovir::tmvs::Window;
 use oracle::paper::FrameRecord;
 
@@ -70,7 +69,6 @@ pub fn finished(record: &FrameRecord, tile_columns: u8) -> Vec<u8> {
 }
 
 /// The window of a load or save, and the cells that the decoder had in it afterwards.
-#[cfg(feature = "tmvs")]
 pub fn window(body: &mut Cursor) -> (Window, Runs) {
     let tile_row = body.u8().into();
     let [left, right, top, bottom] = std::array::from_fn(|_| body.u16().into());
@@ -86,10 +84,8 @@ pub fn window(body: &mut Cursor) -> (Window, Runs) {
 }
 
 /// Runs of cells: row, column, length, then the cell.
-#[cfg(feature = "tmvs")]
 pub struct Runs(Vec<[u8; 8]>);
 
-#[cfg(feature = "tmvs")]
 impl Runs {
     /// The cell of this row and column, if a run has it.
     pub fn cell(&self, [row, column]: [usize; 2]) -> Option<[u8; 5]> {

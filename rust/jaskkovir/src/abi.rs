@@ -65,10 +65,8 @@ extern "C" {
         records: *mut u8,
         records_len: usize,
     ) -> u8;
-}
 
-#[cfg(feature = "tmvs")]
-extern "C" {
+    // crates/abi/src/motions.rt
     pub fn jaskkovir_save_tmvs(
         frame: *const u8,
         frame_len: usize,

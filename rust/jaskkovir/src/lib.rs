@@ -13,7 +13,6 @@ mod frame;
 pub mod leaves;
 pub mod refusal;
 mod tile;
-#[cfg(feature = "tmvs")]
 pub mod tmvs;
 
 pub use frame::Frame;

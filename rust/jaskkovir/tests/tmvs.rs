@@ -1,7 +1,5 @@
 //! A save and a load, and their refusals.
 
-#![cfg(feature = "tmvs")]
-
 use jaskkovir::calls::Block;
 use jaskkovir::calls::Description;
 use jaskkovir::calls::Row;

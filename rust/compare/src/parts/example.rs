@@ -26,9 +26,6 @@ pub fn compare(_: &Options) -> Result<Tally, String> {
 fn compiler() -> Command {
     let mut gcc = Command::new("gcc");
     gcc.args(["-std=c11", "-Wall", "-Wextra", "-Werror", "-Iinclude"]);
-    if cfg!(feature = "tmvs") {
-        gcc.arg("-DJASKKOVIR_TMVS");
-    }
     gcc.args(["examples/first_frame.c", "target/staticlib/libabi.a"]);
     gcc.args(["-o", PROGRAM]);
     gcc

@@ -3,10 +3,8 @@
 mod checks;
 mod example;
 mod leaves;
-#[cfg(feature = "tmvs")]
 mod loads;
 mod rows;
-#[cfg(feature = "tmvs")]
 mod saves;
 mod sequences;
 mod setups;
@@ -32,9 +30,7 @@ pub fn all() -> impl Iterator<Item = (&'static str, Part)> {
         ("check", checks::compare),
         ("rows", rows::compare),
         ("splat", splats::compare),
-        #[cfg(feature = "tmvs")]
         ("save", saves::compare),
-        #[cfg(feature = "tmvs")]
         ("load", loads::compare),
         ("shorts", shorts::compare),
         (SEQUENCES, sequences::compare),

@@ -43,13 +43,8 @@ pub fn compare(options: &Options) -> Result<Tally, String> {
 /// How many events of each kind there were.
 fn note(streams: usize, counts: [u64; 256]) -> String {
     let [frames, rows, splats, loads, saves] = b"FRSLV".map(|it| counts[usize::from(it)]);
-    let run = if cfg!(feature = "tmvs") {
-        ""
-    } else {
-        " (not run)"
-    };
     format!(
-        "{streams} streams: {frames} frames, {rows} rows, {splats} splats, {loads} loads{run}, \
-         {saves} saves{run}"
+        "{streams} streams: {frames} frames, {rows} rows, {splats} splats, {loads} loads, \
+         {saves} saves"
     )
 }

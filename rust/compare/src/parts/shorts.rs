@@ -10,11 +10,8 @@ use jaskkovir::calls::Block;
 use jaskkovir::calls::Description;
 use jaskkovir::calls::Row;
 use jaskkovir::refusal::BUFFER;
-#[cfg(feature = "tmvs")]
 use jaskkovir::tmvs;
-#[cfg(feature = "tmvs")]
 use jaskkovir::tmvs::Saving;
-#[cfg(feature = "tmvs")]
 use jaskkovir::tmvs::Window;
 use jaskkovir::Frame;
 use jaskkovir::Listed;
@@ -30,9 +27,7 @@ pub fn compare(options: &Options) -> Result<Tally, String> {
         listed_sizes(&mut random, &mut tally);
         tile_sbrow_init(&mut random, &mut tally);
         splat_mv(&mut random, &mut tally);
-        #[cfg(feature = "tmvs")]
         save_tmvs(&mut random, &mut tally);
-        #[cfg(feature = "tmvs")]
         load_tmvs(&mut random, &mut tally);
     }
     Ok(tally)
@@ -154,7 +149,6 @@ fn splat_mv(random: &mut SplitMix64, tally: &mut Tally) {
     }
 }
 
-#[cfg(feature = "tmvs")]
 fn save_tmvs(random: &mut SplitMix64, tally: &mut Tally) {
     let [superblock_row, pass] = numbers(random);
     let saving = Saving {
@@ -171,7 +165,6 @@ fn save_tmvs(random: &mut SplitMix64, tally: &mut Tally) {
     }
 }
 
-#[cfg(feature = "tmvs")]
 fn load_tmvs(random: &mut SplitMix64, tally: &mut Tally) {
     let (frame, window) = (frame(random), window(random));
     let (present, field) = (random.bytes::<7>(), random.bytes::<200>());
@@ -185,7 +178,6 @@ fn load_tmvs(random: &mut SplitMix64, tally: &mut Tally) {
     }
 }
 
-#[cfg(feature = "tmvs")]
 fn window(random: &mut SplitMix64) -> Window {
     let [tile_row, left, right, top, bottom] = numbers(random);
     Window {
