@@ -10,8 +10,9 @@ fn read(path: &Path) -> String {
     fs::read_to_string(path).unwrap_or_else(|error| panic!("{}: {error}", path.display()))
 }
 
-/// The names of functions that stand before a bracket.
+/// The names of functions that stand before a bracket, or before a lifetime and a bracket.
 fn names(text: &str) -> BTreeSet<String> {
+    let text = text.replace("<'a>", "");
     let parts = text.split(|c: char| !(c.is_ascii_alphanumeric() || c == '_' || c == '('));
     let called = parts.filter_map(|part| part.split_once('('));
     let names = called.map(|(name, _)| name.to_string());
@@ -22,9 +23,12 @@ fn names(text: &str) -> BTreeSet<String> {
 
 #[test]
 fn names_are_found() {
-    let text = "uint8_t jaskkovir_a(int x); /* jaskkovir_b */ pub fn jaskkovir_c(";
+    let text =
+        "uint8_t jaskkovir_a(int x); /* jaskkovir_b */ pub fn jaskkovir_c( fn jaskkovir_d<'a>(";
     let found = names(text);
-    assert!(found.iter().eq(["jaskkovir_a", "jaskkovir_c"]));
+    assert!(found
+        .iter()
+        .eq(["jaskkovir_a", "jaskkovir_c", "jaskkovir_d"]));
 }
 
 #[test]
