@@ -1,2 +1,3 @@
--- What the contracts of the decoders are written with.
+-- What the contracts of the decoders are written with, and those of a lent buffer.
 pub mod Case
+pub mod Lent

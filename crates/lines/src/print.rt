@@ -1,4 +1,5 @@
-// Lines of words and decimal numbers on standard output. A line is a start, any numbers, an end.
+// Lines of words and decimal numbers on standard output. A line is a start, any words and numbers,
+// an end.
 use ground::sign::magnitude;
 use ground::sign::negative;
 use libc::STDOUT_FILENO;
@@ -10,6 +11,12 @@ pub fn start(n: u8) {
 
 // A word that a line starts with.
 pub fn word(w: &[u8]) {
+    io::write_all(STDOUT_FILENO, w);
+}
+
+// A word behind what stands before it.
+pub fn next_word(w: &[u8]) {
+    io::write_all(STDOUT_FILENO, b" ");
     io::write_all(STDOUT_FILENO, w);
 }
 

@@ -1,5 +1,4 @@
 // One case: a splat's answer, and what it leaves in the buffer.
-use crate::lent::prepare;
 use crate::question::buffer_length;
 use crate::question::record;
 use crate::question::splat;
@@ -7,6 +6,7 @@ use crate::question::with_damage;
 use crate::show;
 use cases::damage::Damage;
 use cases::description::set_up;
+use cases::lent::prepare;
 use cases::row::RowNumbers;
 use frame::record::Frame;
 use lines::print;

@@ -1,22 +1,10 @@
-// The buffer of records that a splat is lent, and what has become of it.
+// What has become of the buffer of records that a splat was lent. All bytes that are lent are above
+// the size codes, so no record that is in order is among them.
+use cases::lent::first_byte;
 ghost use Prim.Native.Nat.{_+_, _/_, _≤_, _<_};
 ghost use lib.ListN.{length};
 
 pub(crate) const RECORD: usize = 12;
-
-// The byte that is lent at i. All such bytes are above the size codes, so no record that is in
-// order is among them.
-fn first_byte(i: usize) -> u8 {
-    128 + (i % 113) as u8
-}
-
-pub(crate) fn prepare(lent: &mut [u8]) {
-    let mut i: usize = 0;
-    while i < lent.len() {
-        lent[i] = first_byte(i);
-        i += 1;
-    }
-}
 
 fn holds(lent: &[u8], i: usize, record: &[u8]) -> bool
     requires { ⌜ i < length (now lent) / 12 ⌝ }

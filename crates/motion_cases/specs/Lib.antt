@@ -1,0 +1,3 @@
+-- What the contracts on cases of saves and loads are written with.
+pub mod Place
+pub mod Patch
