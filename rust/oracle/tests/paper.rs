@@ -1,5 +1,8 @@
 //! The paper's refusals at their limits, and what it accepts beside the Rust.
 
+mod common;
+
+use common::RECORD;
 use oracle::frame;
 use oracle::frame::Description;
 use oracle::paper::record_answer;
@@ -26,35 +29,6 @@ const LARGEST: Description = Description {
     temporal: 1,
     hints: [255; 7],
     hints_by_ref: [[255; 7]; 7],
-};
-
-/// 200 x 300 samples, one thread each way: 2,241 records.
-const RECORD: FrameRecord = FrameRecord {
-    width: 200,
-    height: 300,
-    iw4: 50,
-    ih4: 76,
-    iw8: 25,
-    ih8: 38,
-    sbsz: 16,
-    stride: 32,
-    tile_rows: 3,
-    n_blocks: 32,
-    n_tile_threads: 1,
-    n_frame_threads: 1,
-    use_ref_frame_mvs: 0,
-    temporal: 0,
-    n_mfmvs: 0,
-    hints: [HintFields {
-        sign_bias: 0,
-        mfmv_sign: 0,
-        pocdiff: 0,
-    }; 7],
-    slots: [Slot {
-        reference: 0,
-        ref2cur: Some(0),
-        ref2ref: [0; 7],
-    }; 3],
 };
 
 const PLACE: Place = Place {

@@ -1,34 +1,19 @@
 //! The paper's refusals of a load.
 
+mod common;
+
 use oracle::paper::load_answer;
 use oracle::paper::FrameRecord;
-use oracle::paper::HintFields;
 use oracle::paper::Slot;
 use oracle::Window;
 
-/// 200 x 300 samples, one thread each way, with references 0 and 4 used and 5 skipped.
+/// The common record with references 0 and 4 used and 5 skipped.
 const RECORD: FrameRecord = FrameRecord {
-    width: 200,
-    height: 300,
-    iw4: 50,
-    ih4: 76,
-    iw8: 25,
-    ih8: 38,
-    sbsz: 16,
-    stride: 32,
-    tile_rows: 3,
-    n_blocks: 32,
-    n_tile_threads: 1,
-    n_frame_threads: 1,
     use_ref_frame_mvs: 1,
     temporal: 1,
     n_mfmvs: 3,
-    hints: [HintFields {
-        sign_bias: 0,
-        mfmv_sign: 0,
-        pocdiff: 0,
-    }; 7],
     slots: [slot(0, Some(1)), slot(4, Some(-2)), slot(5, None)],
+    ..common::RECORD
 };
 
 const fn slot(reference: u8, ref2cur: Option<i8>) -> Slot {

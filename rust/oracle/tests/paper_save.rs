@@ -1,44 +1,16 @@
 //! The paper's refusals of a save.
 
+mod common;
+
+use common::RECORD;
 use oracle::frame;
 use oracle::frame::Description;
 use oracle::paper::row_entries;
 use oracle::paper::save_answer;
 use oracle::paper::FrameRecord;
-use oracle::paper::HintFields;
-use oracle::paper::Slot;
 use oracle::rows;
 use oracle::save::Place;
 use oracle::Window;
-
-/// 200 x 300 samples with superblocks of 64, one thread each way: 2,241 records, 1,216 cells.
-const RECORD: FrameRecord = FrameRecord {
-    width: 200,
-    height: 300,
-    iw4: 50,
-    ih4: 76,
-    iw8: 25,
-    ih8: 38,
-    sbsz: 16,
-    stride: 32,
-    tile_rows: 3,
-    n_blocks: 32,
-    n_tile_threads: 1,
-    n_frame_threads: 1,
-    use_ref_frame_mvs: 0,
-    temporal: 0,
-    n_mfmvs: 0,
-    hints: [HintFields {
-        sign_bias: 0,
-        mfmv_sign: 0,
-        pocdiff: 0,
-    }; 7],
-    slots: [Slot {
-        reference: 0,
-        ref2cur: Some(0),
-        ref2ref: [0; 7],
-    }; 3],
-};
 
 const RECORDS: usize = 2241;
 const FIELD: u64 = 5 * 1216;
