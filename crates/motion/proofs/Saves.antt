@@ -59,7 +59,7 @@ front f a pass nrecs nfield e z =
       recs = ltb-false nrecs (12 * records (f .sizes)) (p5 .0);
     }
 
-pub ready : {r : ℕ} (f : Frame) (a : Area) (pass nrecs nfield : ℕ) → r ≡ saveFront f a pass nrecs nfield → r ≡ 0 → Ready nrecs f a pass
+pub ready : {r : ℕ} (f : Frame) (a : Area) (pass nrecs nfield : ℕ) → r ≡ saveFront f a pass nrecs nfield → r ≡ 0 → Ready nrecs f a
 ready f a pass nrecs nfield e z =
     let k = front f a pass nrecs nfield e z in
     record { frame = k .frame; area = k .area; recs = k .recs }

@@ -9,7 +9,7 @@ use native.Mathlib.Decide.{decLt}
 use native.Mathlib.Omega.{arith}
 use lib.Dec.{eqb, ltb}
 use lib.ListN.{length, getD}
-use borrow.Author.Tests.{eq-eqb, ne-eqb, ltb-false, not-false}
+use borrow.Author.Tests.{eq-eqb, ne-eqb, ltb-false, not-false, not-true}
 use Rattle.ground.specs.Below.{allBelow}
 use Rattle.ground.specs.Pick.{pick}
 use Rattle.ground.specs.Script.{Patch, run}
@@ -46,15 +46,15 @@ sound cells w z x h g = by (wellSaved (cells x)) refl (spans.all-accept (cellRea
     by false e k = absurd (omega arith)
 
 -- a step's pass and row; r is how many rows there are
-pub record Within (w : Window) (us : Uses) (k r : ℕ) : Type 0 where
+pub record Numbered (w : Window) (us : Uses) (k r : ℕ) : Type 0 where
   pub some : 0 < r
   pub pass : k / r ≤ us .n
   pub under : w .top + k % r < w .bottom
 
-pub within : (w : Window) (us : Uses) (k : ℕ) {r : ℕ} → r ≡ rowsOf w → k < stepsOf w us → Within w us k r
+pub within : (w : Window) (us : Uses) (k : ℕ) {r : ℕ} → r ≡ rowsOf w → k < stepsOf w us → Numbered w us k r
 unfolding stepsOf rowsOf
 within w us k e h =
-    subst⁻¹ (Within w us k) e
+    subst⁻¹ (Numbered w us k) e
     (record { some = some; pass = omega (arith, div-lt-iff-lt-mul some .1 h); under = omega (arith, mod-lt k some) })
   where
     none : (r : ℕ) → r ≡ 0 → k < (1 + us .n) * r → ⊥
@@ -177,15 +177,11 @@ held : (f : Frame) (a : Area) (present lengths : List ℕ) (i : ℕ) → wellFra
 unfolding longEnough isLent savedCells
 held f a present lengths i e h l p =
     let c = areas.cut (f .sizes) a (frame-sizes f e) h in
-    let n = not-false' (eqb (getD present (useAt (usesOf f) i .field) 0) 0) p in
-    let g = ltb-false (getD lengths (useAt (usesOf f) i .field) 0) (5 * (f .sizes .stride * f .sizes .ih8 .0)) (not-false' (ltb (getD lengths (useAt (usesOf f) i .field) 0) (5 * (f .sizes .stride * f .sizes .ih8 .0))) (sym (or-off n) ∙ l)) in
+    let n = not-true (eqb (getD present (useAt (usesOf f) i .field) 0) 0) p in
+    let g = ltb-false (getD lengths (useAt (usesOf f) i .field) 0) (5 * (f .sizes .stride * f .sizes .ih8 .0)) (not-true (ltb (getD lengths (useAt (usesOf f) i .field) 0) (5 * (f .sizes .stride * f .sizes .ih8 .0))) (sym (or-off n) ∙ l)) in
     let m : bottomOf (f .sizes) a * f .sizes .stride ≤ f .sizes .ih8 .0 * f .sizes .stride = mul-le-mul-right (f .sizes .stride) (c .bottom) in
     let k = mul-comm (f .sizes .ih8 .0) (f .sizes .stride) in
     omega arith
-  where
-    not-false' : (b : Bool) → not b ≡ true → b ≡ false
-    not-false' true q = sym q
-    not-false' false q = refl
 
 pub front : (f : Frame) (a : Area) (present lengths : List ℕ) (nproj : ℕ) → loadFront f a present lengths nproj ≡ 0 → Front f a lengths nproj
 unfolding loadFront windowOf

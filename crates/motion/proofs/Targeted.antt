@@ -12,7 +12,7 @@ use lib.Dec.{T, eqb, leb, ltb}
 use lib.IntN.{ℤ, pos, negsuc, subℕ, natAbs}
 use lib.ListN.{length, getD}
 use lib.Signed.{mag}
-use borrow.Author.Tests.{eq-eqb, ne-eqb, leb-true, ltb-true}
+use borrow.Author.Tests.{not-true, eq-eqb, ne-eqb, leb-true, ltb-true}
 use Rattle.ground.specs.Pick.{pick}
 use Rattle.ground.specs.Put.{put}
 use Rattle.ground.specs.Script.{run, Avoids}
@@ -91,15 +91,11 @@ cell-view l k j v fits f r = by (ℕ-discrete j k)
 reads-back : (m : Motion) (c : Cell) → Numbers m → wellSaved c ≡ true → moves m c ≡ true → Fits (leaves m c .mv) × (mag (leaves m c .reference .0) < 128)
 unfolding moves
 reads-back m c n h t =
-    let a = not-true' (savedAbsent c) (both (not (savedAbsent c)) (not (eqb (refOffset m c) 0)) t .0) in
+    let a = not-true (savedAbsent c) (both (not (savedAbsent c)) (not (eqb (refOffset m c) 0)) t .0) in
     let v = saved-moves c h a .near in
     let d = n .apart (natAbs (c .reference .0) - 1) in
     (record { y = omega (arith, mag-abs (c .mv .y), v .y); x = omega (arith, mag-abs (c .mv .x), v .x) }, omega arith)
   where
-    not-true' : (b : Bool) → not b ≡ true → b ≡ false
-    not-true' true q = sym q
-    not-true' false q = refl
-
     mag-abs : (z : ℤ) → mag z ≤ natAbs z
     mag-abs (pos k) = omega arith
     mag-abs (negsuc k) = omega arith

@@ -27,7 +27,7 @@ pub record RowsRoom (nrecs total nfield : ℕ) (w : Strip) : Type 0 where
   pub cells : 5 * (w .bottom * w .stride) ≤ nfield
 
 -- what stands before the reads, of the records' length alone
-pub record Ready (nrecs : ℕ) (f : Frame) (a : Area) (pass : ℕ) : Type 0 where
+pub record Ready (nrecs : ℕ) (f : Frame) (a : Area) : Type 0 where
   pub frame : wellFrame f ≡ true
   pub area : wellArea (f .sizes) a ≡ true
   pub recs : 12 * records (f .sizes) ≤ nrecs

@@ -71,7 +71,7 @@ fn save_rows(
 }
 
 fn reads_of(recs: &[u8], f: Frame, a: Area, sby: usize, pass: usize) -> u8
-    requires { ⌜ Ready (length (now recs)) f a pass ⌝ }
+    requires { ⌜ Ready (length (now recs)) f a ⌝ }
     ensures { λ r. ⌜ r ≡ saveReads (now (recs .entry)) f a sby pass ⌝ }
 {
     let s = f.sizes;
