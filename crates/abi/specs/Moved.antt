@@ -6,9 +6,9 @@ use lib.Dec.{ltb}
 use lib.ListN.{length, take}
 use Rattle.ground.specs.Pick.{pick}
 use Rattle.ground.specs.Script.{Patch}
-use Rattle.motion.specs.declared.area.Area.{Area}
-use Rattle.motion.specs.Save.{saveAnswer, saveScript}
-use Rattle.motion.specs.Load.{loadAnswer, loadScript}
+use Rattle.saving.specs.declared.area.Area.{Area}
+use Rattle.saving.specs.Save.{saveAnswer, saveScript}
+use Rattle.loading.specs.Load.{loadAnswer, loadScript}
 use Rattle.abi.specs.FrameBytes.{frameAt}
 use Rattle.abi.specs.Framed.{shortFrame}
 

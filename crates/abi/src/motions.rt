@@ -4,13 +4,13 @@ use crate::frame_bytes::frame_at;
 use crate::frames::PRESENT;
 use crate::frames::seven;
 use cells::pos::Pos8;
-use motion::area::Area;
-use motion::load::load_tmvs;
-use motion::save::save_tmvs;
+use loading::load::load_tmvs;
+use saving::area::Area;
+use saving::save::save_tmvs;
 ghost use mathlib.Core.Path.{_≡_};
 ghost use lib.ListN.{length};
 ghost use Rattle.ground.specs.Script.{run};
-ghost use Rattle.motion.specs.Load.{lent};
+ghost use Rattle.loading.specs.Load.{lent};
 ghost use Rattle.abi.specs.Moved.{area, savedAnswer, savedScript, loadLacks, loadedAnswer, loadedScript};
 
 fn area_of(tile: usize, left: usize, right: usize, top: usize, bottom: usize) -> Area

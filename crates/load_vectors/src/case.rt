@@ -9,7 +9,7 @@ use frame::record::Frame;
 use frame::record::listed_sizes;
 use ground::read::size_at;
 use lines::print;
-use motion::load::load_tmvs;
+use loading::load::load_tmvs;
 use motion_cases::changes;
 use motion_cases::place::area_at;
 ghost use mathlib.Core.Path.{_≡_};

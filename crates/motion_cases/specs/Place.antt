@@ -2,7 +2,7 @@
 use Prim.Native.Nat.{ℕ}
 use mathlib.Core.List.{List}
 use Rattle.ground.specs.Little.{fourAt}
-use Rattle.motion.specs.declared.area.Area.{Area}
+use Rattle.saving.specs.declared.area.Area.{Area}
 
 unfoldable pub areaAt : List ℕ → Area
 areaAt l =

@@ -1,7 +1,7 @@
 // Where a save or a load works, behind the damage.
 use cells::pos::Pos8;
 use ground::read::size_at;
-use motion::area::Area;
+use saving::area::Area;
 ghost use mathlib.Core.Path.{_≡_};
 ghost use Prim.Native.Nat.{_≤_};
 ghost use lib.ListN.{length};

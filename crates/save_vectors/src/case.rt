@@ -6,9 +6,9 @@ use cases::lent::prepare;
 use frame::record::Frame;
 use ground::read::size_at;
 use lines::print;
-use motion::save::save_tmvs;
 use motion_cases::changes;
 use motion_cases::place::area_at;
+use saving::save::save_tmvs;
 ghost use Prim.Native.Nat.{_≤_};
 ghost use lib.ListN.{length};
 

@@ -1,0 +1,20 @@
+-- `landing::land::apart_of` meets its contract.
+-- Assumes nothing.
+use lib.ListN.{getD}
+use Prim.Native.Nat.{ℕ}
+use mathlib.Core.Path.{ap}
+use borrow.Author.Needs.{needs}
+use Rattle.landing.proofs.land.apart_of.Statement.{statement}
+use Rattle.landing.proofs.land.apart_of.Tie as tie
+
+place-of-requires : tie.Need-place-of-requires
+place-of-requires c κs = search needs
+
+array-read-result : tie.Need-array-read-result
+array-read-result c = search needs
+
+returns : tie.Need-returns
+returns c = ap (λ (i : ℕ). getD (c .before .before .args .m .apart) i 0) (c .place-of .ensures .0)
+
+pub apart-of-spec : {M : Type 1} → statement M
+apart-of-spec = tie.close (tie.spec place-of-requires array-read-result returns)

@@ -1,0 +1,34 @@
+-- `saving::area::Area::window_in` meets its contract.
+-- Assumes nothing.
+use mathlib.Core.Path.{ap}
+use native.Mathlib.Omega.{arith}
+use Prim.Native.Nat.{_*_}
+use Rattle.frame.specs.Sizes.{projectedCells}
+use Rattle.frame.proofs.Sizing.{fits}
+use Rattle.rows.proofs.Parts.{blocks-fit}
+use Rattle.saving.specs.Area.{windowOf}
+use Rattle.saving.proofs.Areas.{part-fits}
+use borrow.Author.Needs.{needs}
+use Rattle.saving.proofs.area.Area.window_in.Statement.{statement}
+use Rattle.saving.proofs.area.Area.window_in.Tie as tie
+
+bottom-in-requires : tie.Need-bottom-in-requires
+bottom-in-requires c κs = search needs
+
+part-requires : tie.Need-part-requires
+part-requires c κs = search needs
+
+mul-t5 : tie.Need-mul-t5
+unfolding projectedCells
+mul-t5 c = let s = c .before .before .before in let p = part-fits (s .args .s) (s .args .self) (s .pre .0) (s .pre .1) in let k = blocks-fit (s .args .s) (fits (s .args .s) (s .pre .0)) in let e = ap (λ x. x * s .args .s .stride) (c .before .part .ensures) in record { fits = omega arith }
+
+mul-t6 : tie.Need-mul-t6
+unfolding projectedCells
+mul-t6 c = let s = c .before .before .before in let p = part-fits (s .args .s) (s .args .self) (s .pre .0) (s .pre .1) in let k = blocks-fit (s .args .s) (fits (s .args .s) (s .pre .0)) in let e = ap (λ x. x * s .args .s .stride) (c .before .part .ensures) in record { fits = omega arith }
+
+returns : tie.Need-returns
+unfolding windowOf
+returns c = rw (c .before .before .bottom-in .ensures, c .before .part .ensures)
+
+pub window-in-spec : {M : Type 1} → statement M
+window-in-spec = tie.close (tie.spec bottom-in-requires part-requires mul-t5 mul-t6 returns)

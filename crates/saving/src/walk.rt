@@ -1,0 +1,178 @@
+// A row of a save: the row's blocks from left to right, each read once at its first cell.
+use crate::area::Strip;
+use crate::choose::cells_wide;
+use crate::choose::choose;
+use cells::block::Block;
+use cells::cell::Cell;
+use cells::pos::Pos8;
+use frame::distances::RefHint;
+use rows::table::Place;
+use rows::table::RowEntry;
+use rows::table::place_at;
+ghost use mathlib.Core.Path.{_≡_};
+ghost use Prim.Native.Nat.{_+_, _-_, _*_, _≤_, _<_};
+ghost use lib.Dec.{ltb};
+ghost use lib.ListN.{length};
+ghost use Rattle.ground.specs.Put.{put, copies};
+ghost use Rattle.ground.specs.Script.{run};
+ghost use Rattle.cells.specs.Cell.{cellBytes};
+ghost use Rattle.saving.specs.Rooms.{RowRoom};
+ghost use Rattle.saving.specs.Save.{recordOf, blockOn, wideOn, blockRead, walkRead, walkBytes, entryOf, placeRead, rowRead, placePatch, rowPatch};
+
+// Whether the record that cell x is saved from is one of the listed.
+fn is_listed(total: usize, o: usize, x: usize) -> bool
+    requires { ⌜ x ≤ 65536 ⌝ }
+    ensures { λ r. ⌜ r ≡ ltb (recordOf o x) total ⌝ }
+{
+    let at = Pos8(x).odd().0;
+    if total <= at {
+        return false;
+    }
+    o < total - at
+}
+
+// The record that cell x is saved from, in a row of records that starts at number o.
+fn block_of(recs: &[u8], o: usize, x: usize) -> Block
+    requires { ⌜ (x ≤ 65536) × (12 * recordOf o x + 12 ≤ length (now recs)) ⌝ }
+    ensures { λ r. ⌜ r ≡ blockOn (now (recs .entry)) o x ⌝ }
+{
+    Block::read(recs, o + Pos8(x).odd().0)
+}
+
+fn check_block(recs: &[u8], total: usize, o: usize, limit: usize, x: usize) -> u8
+    requires { ⌜ (x ≤ 65536) × (12 * total ≤ length (now recs)) ⌝ }
+    ensures { λ r. ⌜ r ≡ blockRead (now (recs .entry)) total o limit x ⌝ }
+{
+    if !is_listed(total, o, x) {
+        return 4;
+    }
+    let b = block_of(recs, o, x);
+    if !b.well_formed() {
+        return 8;
+    }
+    if limit < x + cells_wide(b.bs) { 9 } else { 0 }
+}
+
+fn wide_at(recs: &[u8], o: usize, x: usize) -> usize
+    requires { ⌜ (x ≤ 65536) × (12 * recordOf o x + 12 ≤ length (now recs)) ⌝ }
+    ensures { λ r. ⌜ (r ≡ wideOn (now (recs .entry)) o x) × (1 ≤ r) × (r ≤ 16) ⌝ }
+{
+    let b = block_of(recs, o, x);
+    cells_wide(b.bs)
+}
+
+// The first read that fails answers. total is how many records are listed.
+fn check_walk(recs: &[u8], total: usize, o: usize, w: Strip) -> u8
+    requires { ⌜ (w .end ≤ 65536) × (12 * total ≤ length (now recs)) ⌝ }
+    ensures { λ r. ⌜ r ≡ walkRead (now (recs .entry)) total o (w .end) (w .limit) (w .end - w .left) (w .left) ⌝ }
+{
+    let mut x = w.left;
+    while x < w.end {
+        let answer = check_block(recs, total, o, w.limit, x);
+        if answer != 0 {
+            return answer;
+        }
+        x += wide_at(recs, o, x);
+    }
+    0
+}
+
+// n times the cell from number at on.
+fn fill_cells(field: &mut [u8], c: Cell, at: usize, n: usize)
+    requires { ⌜ 5 * (at + n) ≤ length (now field) ⌝ }
+    ensures { λ _. ⌜ now (field .exit) ≡ put (now (field .entry)) (5 * at) (copies n (cellBytes c)) ⌝ }
+{
+    let mut i = at;
+    let mut left = n;
+    while 0 < left {
+        c.write(field, i);
+        i += 1;
+        left -= 1;
+    }
+}
+
+// first is the number of the row's first cell.
+fn write_walk(
+    recs: &[u8],
+    total: usize,
+    o: usize,
+    refs: [RefHint; 7],
+    w: Strip,
+    first: usize,
+    field: &mut [u8],
+)
+    requires { ⌜ (w .end ≤ w .limit) × (w .limit ≤ 65536) × (12 * total ≤ length (now recs)) × (5 * (first + w .limit) ≤ length (now field)) ⌝ }
+    requires { ⌜ walkRead (now recs) total o (w .end) (w .limit) (w .end - w .left) (w .left) ≡ 0 ⌝ }
+    ensures { λ _. ⌜ now (field .exit) ≡ put (now (field .entry)) (5 * (first + w .left)) (walkBytes (now (recs .entry)) refs o (w .end) (w .end - w .left) (w .left)) ⌝ }
+{
+    let mut x = w.left;
+    while x < w.end {
+        let b = block_of(recs, o, x);
+        let n = cells_wide(b.bs);
+        fill_cells(field, choose(refs, b), first + x, n);
+        x += n;
+    }
+}
+
+// The entry of a row of cells: the table's own rows stand behind five above.
+fn entry_of(y: usize) -> usize
+    ensures { λ r. ⌜ r ≡ entryOf y ⌝ }
+{
+    6 + 2 * (y % 16)
+}
+
+fn check_place(recs: &[u8], total: usize, w: Strip, p: Place) -> u8
+    requires { ⌜ (w .end ≤ 65536) × (12 * total ≤ length (now recs)) ⌝ }
+    ensures { λ r. ⌜ r ≡ placeRead (now (recs .entry)) total w p ⌝ }
+{
+    match p {
+        Place::Absent => 6,
+        Place::At(o) => check_walk(recs, total, o, w),
+    }
+}
+
+// What row y of a save reads.
+pub fn check_row(recs: &[u8], total: usize, rows: [RowEntry; 37], w: Strip, y: usize) -> u8
+    requires { ⌜ (w .end ≤ 65536) × (12 * total ≤ length (now recs)) ⌝ }
+    ensures { λ r. ⌜ r ≡ rowRead (now (recs .entry)) total rows w y ⌝ }
+{
+    if w.left < w.end {
+        return check_place(recs, total, w, place_at(rows, entry_of(y)));
+    }
+    0
+}
+
+fn write_place(
+    recs: &[u8],
+    total: usize,
+    p: Place,
+    refs: [RefHint; 7],
+    w: Strip,
+    y: usize,
+    field: &mut [u8],
+)
+    requires { ⌜ RowRoom (length (now recs)) total (length (now field)) w y ⌝ }
+    requires { ⌜ (w .left < w .end → placeRead (now recs) total w p ≡ 0) ⌝ }
+    ensures { λ _. ⌜ now (field .exit) ≡ run (placePatch (now (recs .entry)) refs w y p) (now (field .entry)) ⌝ }
+{
+    if let Place::At(o) = p {
+        write_walk(recs, total, o, refs, w, y * w.stride, field);
+    }
+}
+
+// Row y of a save, whose reads have passed.
+pub fn save_row(
+    recs: &[u8],
+    total: usize,
+    rows: [RowEntry; 37],
+    refs: [RefHint; 7],
+    w: Strip,
+    y: usize,
+    field: &mut [u8],
+)
+    requires { ⌜ RowRoom (length (now recs)) total (length (now field)) w y ⌝ }
+    requires { ⌜ rowRead (now recs) total rows w y ≡ 0 ⌝ }
+    ensures { λ _. ⌜ now (field .exit) ≡ run (rowPatch (now (recs .entry)) rows refs w y) (now (field .entry)) ⌝ }
+{
+    write_place(recs, total, place_at(rows, entry_of(y)), refs, w, y, field);
+}
