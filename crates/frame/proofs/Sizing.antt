@@ -53,6 +53,10 @@ pub eighths-most : (n : ℕ) → n ≤ sizes.mostSamples → sizes.eighths n ≤
 unfolding sizes.eighths
 eighths-most n h = omega arith
 
+pub eighths-some : (n : ℕ) → 1 ≤ n → 1 ≤ sizes.eighths n
+unfolding sizes.eighths
+eighths-some n h = omega arith
+
 pub eighths-stride : (w : ℕ) → sizes.eighths w ≤ sizes.strideOf w
 unfolding sizes.eighths sizes.strideOf
 eighths-stride w = omega arith

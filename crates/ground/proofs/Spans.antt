@@ -184,3 +184,12 @@ module _ (f : ℕ → ℕ) where
           by : Dec (a < x) → (a < x → f x ≡ 0) → f x ≡ 0
           by (yes l) rest = rest l
           by (no l) rest = let k : x ≡ a = omega arith in ap f k ∙ both-accept (f a) (firstOver f n (suc a)) z .0
+
+  -- and the other way
+  pub none-refuses : (a e : ℕ) → ((x : ℕ) → a ≤ x → x < e → f x ≡ 0) → firstOf f a e ≡ 0
+  unfolding firstOf firstOver
+  none-refuses a e h = go (e - a) a (λ x l m. h x l (omega arith))
+    where
+      go : (n a : ℕ) → ((x : ℕ) → a ≤ x → x < a + n → f x ≡ 0) → firstOver f n a ≡ 0
+      go zero a h = refl
+      go (suc n) a h = or-accepts (f a) (firstOver f n (suc a)) (h a (omega arith) (omega arith)) ∙ go n (suc a) (λ x l m. h x (omega arith) (omega arith))

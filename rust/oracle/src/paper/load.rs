@@ -39,7 +39,7 @@ pub fn load_answer(
 }
 
 /// The references that are selected and not skipped, in order.
-fn used(record: &FrameRecord) -> Vec<usize> {
+pub(super) fn used(record: &FrameRecord) -> Vec<usize> {
     record.slots[..record.n_mfmvs.into()]
         .iter()
         .filter(|slot| slot.ref2cur.is_some())
@@ -48,7 +48,7 @@ fn used(record: &FrameRecord) -> Vec<usize> {
 }
 
 /// Sources run from 8 columns before the window to 8 after, inside the frame.
-fn sources_are_fine(record: &FrameRecord, window: &Window, field: &[u8]) -> bool {
+pub(super) fn sources_are_fine(record: &FrameRecord, window: &Window, field: &[u8]) -> bool {
     let (cells, _) = field.as_chunks::<{ CELL_LEN as usize }>();
     let columns = window.col_start.saturating_sub(8)..(window.col_end + 8).min(record.iw8);
     (window.row_start..window.row_end.min(record.ih8)).all(|y| {

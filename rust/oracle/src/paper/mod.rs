@@ -1,10 +1,17 @@
 //! Which refusal the scope paper (document 01) gives, read plainly and without the Rust, which has
 //! none. 0 is acceptance.
 
+mod jobs;
 mod load;
 mod save;
 mod table;
 
+pub use jobs::batch_answer;
+pub use jobs::step_answer;
+pub use jobs::steps;
+pub use jobs::Handed;
+pub use jobs::Job;
+pub use jobs::DONE;
 pub use load::load_answer;
 pub use save::save_answer;
 pub use table::row_entries;

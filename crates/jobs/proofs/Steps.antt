@@ -1,0 +1,164 @@
+-- A step's ways out, and what one that is counted may do.
+-- Assumes nothing.
+use mathlib.Core.Path.{_≡_, refl, sym, ap, _∙_}
+use mathlib.Core.Bool.{Bool, true, false, not}
+use mathlib.Core.List.{List, []}
+use Prim.Native.Nat.{ℕ, zero, suc, _+_, _<_}
+use native.Mathlib.Omega.{arith}
+use lib.Dec.{eqb, leb, ltb}
+use lib.ListN.{length, set}
+use borrow.Author.Tests.{eq-eqb, ne-eqb, eqb-false, leb-true, ltb-true}
+use Rattle.ground.specs.Answer.{accepted}
+use Rattle.ground.specs.Pick.{pick}
+use Rattle.ground.specs.Script.{Patch, run}
+use Rattle.ground.proofs.Answers.{both-accept, or-accepts, or-refuses, refused-not}
+use Rattle.ground.proofs.Picks.{both, pick-true, pick-false}
+use Rattle.loading.specs.Load.{lengthsOf}
+use Rattle.jobs.specs.declared.job.Job.{Job}
+use Rattle.jobs.specs.declared.job.Batch.{Batch}
+use Rattle.jobs.specs.declared.job.Answer.{Answer}
+use Rattle.jobs.specs.declared.job.Answer.the-variants.{Moved, Refused}
+use Rattle.jobs.specs.declared.step.Stepped.{Stepped}
+use Rattle.jobs.specs.declared.step.Turned.{Turned}
+use Rattle.jobs.specs.Job.{isLoad, jobAt, wellKind, countOf, workRead, workScript, onProj, onSaved}
+use Rattle.jobs.specs.Needs.{Able, Room}
+use Rattle.jobs.specs.Admit.{Handed, lengthsIn, frontOf}
+use Rattle.jobs.specs.Step.{doneNumber, answerOf, stepNumber, stepDone, stepProj, stepSaved, withDone, names, turnNumber, turnProj, turnSaved, turnBatch}
+use Rattle.jobs.proofs.Fronts.{front, count-most}
+
+-- THE NUMBER'S FOUR WAYS OUT
+module _ (h : Handed) (j : Job) where
+  pub ill-kind : wellKind j ≡ false → 12 ≡ stepNumber h j
+  unfolding stepNumber
+  ill-kind e = rw e
+
+  module _ (w : wellKind j ≡ true) where
+    first : pick (not (wellKind j)) 12 (frontOf h j) ≡ frontOf h j
+    first = pick-false 12 (ap not w)
+
+    pub front-stops : {r : ℕ} → r ≡ frontOf h j → (r ≡ 0 → ⊥) → r ≡ stepNumber h j
+    unfolding stepNumber
+    front-stops e n = e ∙ sym (or-refuses _ _ (λ z. n (e ∙ sym first ∙ z)) ∙ first)
+
+    module _ {r : ℕ} (e : r ≡ frontOf h j) (z : r ≡ 0) where
+      second : stepNumber h j ≡ pick (eqb (j .done) (countOf (h .frame) j)) doneNumber (workRead (h .frame) (h .fields) (h .recs) j (j .done))
+      unfolding stepNumber
+      second = or-accepts _ _ (first ∙ sym e ∙ z)
+
+      pub is-done : {n : ℕ} → n ≡ countOf (h .frame) j → j .done ≡ n → doneNumber ≡ stepNumber h j
+      is-done q d = sym (second ∙ pick-true _ (eq-eqb _ _ (d ∙ q)))
+
+      pub row-answers : {n a : ℕ} → n ≡ countOf (h .frame) j → (j .done ≡ n → ⊥) → a ≡ workRead (h .frame) (h .fields) (h .recs) j (j .done) → a ≡ stepNumber h j
+      row-answers q d g = g ∙ sym (second ∙ pick-false doneNumber (ne-eqb _ _ (λ x. d (x ∙ sym q))))
+
+-- what its reads may count on: the front's, and that a step is left
+pub to-read : (h : Handed) (j : Job) {r n : ℕ} → r ≡ frontOf h j → r ≡ 0 → n ≡ countOf (h .frame) j → (j .done ≡ n → ⊥)
+    → Able (h .frame) j (lengthsOf (h .fields)) (length (h .recs)) × (j .done < countOf (h .frame) j)
+to-read h j e z q d =
+    let p = front (h .frame) (h .present) (lengthsIn h) j (sym e ∙ z) in
+    (p .able, omega (arith, q, d, p .most))
+
+-- WHAT A COUNTED STEP MAY DO
+pub record Due (h : Handed) (j : Job) : Type 0 where
+  pub able : Able (h .frame) j (lengthsOf (h .fields)) (length (h .recs))
+  pub room : Room (h .frame) j (h .nproj) (h .nsaved)
+  pub under : j .done < countOf (h .frame) j
+  pub small : j .done < 64
+  pub reads : workRead (h .frame) (h .fields) (h .recs) j (j .done) ≡ 0
+
+pub due : (h : Handed) (j : Job) {r : ℕ} → r ≡ stepNumber h j → r ≡ 0 → Due h j
+unfolding stepNumber
+due h j e z =
+    let p = both-accept (pick (not (wellKind j)) 12 (frontOf h j)) _ (sym e ∙ z) in
+    let k = refused-not (not (wellKind j)) 11 _ (p .0) in
+    let d = refused-not (eqb (j .done) (countOf (h .frame) j)) 14 _ (p .1) in
+    let q = front (h .frame) (h .present) (lengthsIn h) j (k .1) in
+    let u : j .done < countOf (h .frame) j = omega (arith, q .most, eqb-false (j .done) (countOf (h .frame) j) (d .0)) in
+    record { able = q .able; room = q .room; under = u; small = omega (arith, u, count-most (h .frame) j (q .frame) (q .area)); reads = d .1 }
+
+-- what it lays and counts, by its number
+none-laid : (n : ℕ) (ps : List Patch) → (n ≡ 0 → ⊥) → accepted n ps ≡ []
+none-laid zero ps h = absurd (h refl)
+none-laid (suc n) ps h = refl
+
+either : (b : Bool) → _≡_ {A = List Patch} (pick b [] []) []
+either true = refl
+either false = refl
+
+module _ (h : Handed) (j : Job) (n : stepNumber h j ≡ 0 → ⊥) where
+  proj-none : stepProj h j ≡ []
+  unfolding stepProj
+  proj-none = ap (onProj j) (none-laid (stepNumber h j) _ n) ∙ either (isLoad j)
+
+  saved-none : stepSaved h j ≡ []
+  unfolding stepSaved
+  saved-none = ap (onSaved j) (none-laid (stepNumber h j) _ n) ∙ either (isLoad j)
+
+  done-none : stepDone h j ≡ j .done
+  unfolding stepDone
+  done-none = pick-false _ (ne-eqb (stepNumber h j) 0 n)
+
+stepped : {a b : Answer} {m n : ℕ} → a ≡ b → m ≡ n → _≡_ {A = Stepped} (record { answer = a; done = m }) (record { answer = b; done = n })
+stepped e q = λ t. record { answer = e t; done = q t }
+
+-- ITS TWO WAYS OUT: nothing is laid and counted, or its row of work is
+module _ (h : Handed) (j : Job) (proj saved : List ℕ) {r : ℕ} (e : r ≡ stepNumber h j) where
+  pub stays : (r ≡ 0 → ⊥) → {a : Answer} → a ≡ answerOf r
+      → (_≡_ {A = Stepped} (record { answer = a; done = j .done }) (record { answer = answerOf (stepNumber h j); done = stepDone h j }))
+      × ((proj ≡ run (stepProj h j) proj) × (saved ≡ run (stepSaved h j) saved))
+  unfolding run
+  stays n q =
+      let m : stepNumber h j ≡ 0 → ⊥ = λ z. n (e ∙ z) in (
+        stepped (q ∙ ap answerOf e) (sym (done-none h j m)),
+        (ap (λ (p : List Patch). run p proj) (sym (proj-none h j m)), ap (λ (p : List Patch). run p saved) (sym (saved-none h j m))),
+      )
+
+  pub goes : r ≡ 0 → {t u : List ℕ}
+      → t ≡ run (onProj j (workScript (h .frame) (h .fields) (h .recs) j (j .done))) proj
+      → u ≡ run (onSaved j (workScript (h .frame) (h .fields) (h .recs) j (j .done))) saved
+      → (_≡_ {A = Stepped} (record { answer = Moved; done = j .done + 1 }) (record { answer = answerOf (stepNumber h j); done = stepDone h j }))
+      × ((t ≡ run (stepProj h j) proj) × (u ≡ run (stepSaved h j) saved))
+  unfolding answerOf stepDone stepProj stepSaved
+  goes z p q =
+      let k = sym z ∙ e in (
+        stepped (ap answerOf k) (ap (λ (m : ℕ). pick (eqb m 0) (j .done + 1) (j .done)) k),
+        (
+          p ∙ ap (λ (m : ℕ). run (onProj j (accepted m (workScript (h .frame) (h .fields) (h .recs) j (j .done)))) proj) k,
+          q ∙ ap (λ (m : ℕ). run (onSaved j (accepted m (workScript (h .frame) (h .fields) (h .recs) j (j .done)))) saved) k,
+        ),
+      )
+
+-- A STEP OF A BATCH
+pub named : (b : Batch) (k : ℕ) → names b k ≡ true → k < 8
+unfolding names
+named b k e = let p = both (leb (b .n) 8) (ltb k (b .n)) e in omega (arith, leb-true (b .n) 8 (p .0), ltb-true k (b .n) (p .1))
+
+accepted-same : (n : ℕ) (ps : List Patch) → ((n ≡ 0 → ⊥) → ps ≡ []) → accepted n ps ≡ ps
+accepted-same zero ps h = refl
+accepted-same (suc n) ps h = sym (h (λ e. omega arith))
+
+turned-to : {a c : Answer} {b d : Batch} → a ≡ c → b ≡ d → _≡_ {A = Turned} (record { answer = a; batch = b }) (record { answer = c; batch = d })
+turned-to e q = λ t. record { answer = e t; batch = q t }
+
+module _ (h : Handed) (b : Batch) (k : ℕ) (proj saved : List ℕ) where
+  pub unnamed : names b k ≡ false
+      → (_≡_ {A = Turned} (record { answer = Refused 12; batch = b }) (record { answer = answerOf (turnNumber h b k); batch = turnBatch h b k }))
+      × ((proj ≡ run (turnProj h b k) proj) × (saved ≡ run (turnSaved h b k) saved))
+  unfolding answerOf turnNumber turnBatch turnProj turnSaved run
+  unnamed e = rw e (refl, (refl, refl))
+
+  pub turned : names b k ≡ true → {s : Stepped} {t u : List ℕ}
+      → s ≡ record { answer = answerOf (stepNumber h (jobAt b k)); done = stepDone h (jobAt b k) }
+      → t ≡ run (stepProj h (jobAt b k)) proj → u ≡ run (stepSaved h (jobAt b k)) saved
+      → (_≡_ {A = Turned} (record { answer = s .answer; batch = record { n = b .n; jobs = set (b .jobs) k (withDone (jobAt b k) (s .done)) } })
+      (record { answer = answerOf (turnNumber h b k); batch = turnBatch h b k }))
+      × ((t ≡ run (turnProj h b k) proj) × (u ≡ run (turnSaved h b k) saved))
+  unfolding turnNumber turnBatch turnProj turnSaved
+  turned e {s} q p g =
+      rw e (
+        turned-to (λ t. q t .answer) (λ t. record { n = b .n; jobs = set (b .jobs) k (withDone (jobAt b k) (q t .done)) }),
+        (
+          p ∙ ap (λ (x : List Patch). run x proj) (sym (accepted-same (stepNumber h (jobAt b k)) _ (proj-none h (jobAt b k)))),
+          g ∙ ap (λ (x : List Patch). run x saved) (sym (accepted-same (stepNumber h (jobAt b k)) _ (saved-none h (jobAt b k)))),
+        ),
+      )

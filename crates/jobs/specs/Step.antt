@@ -1,0 +1,64 @@
+-- A step (document 01, the order of refusals; "Jobs and windows"): 12, 1, 3, 4 and 5 of its job, then "done", then its own row's reads; then it writes.
+use Prim.Native.Nat.{ℕ, _+_}
+use mathlib.Core.Bool.{Bool, not, _&&_}
+use mathlib.Core.List.{List}
+use lib.Dec.{eqb, ltb, leb}
+use lib.ListN.{set}
+use Rattle.ground.specs.Answer.{orElse, accepted}
+use Rattle.ground.specs.Pick.{pick}
+use Rattle.ground.specs.Script.{Patch}
+use Rattle.jobs.specs.declared.job.Job.{Job}
+use Rattle.jobs.specs.declared.job.Batch.{Batch}
+use Rattle.jobs.specs.declared.job.Answer.{Answer}
+use Rattle.jobs.specs.declared.job.Answer.the-variants.{Moved, Done, Refused}
+use Rattle.jobs.specs.Job.{jobAt, wellKind, countOf, workRead, workScript, onProj, onSaved}
+use Rattle.jobs.specs.Admit.{Handed, frontOf}
+
+-- "done" is neither 0 nor a refusal; 14 is left for "waiting"
+abbrev pub doneNumber : ℕ
+doneNumber = 15
+
+-- the paper's number of an answer, and back
+abbrev pub numberOf : Answer → ℕ
+numberOf Moved = 0
+numberOf Done = doneNumber
+numberOf (Refused n) = n
+
+unfoldable pub answerOf : ℕ → Answer
+answerOf n = pick (eqb n 0) Moved (pick (eqb n doneNumber) Done (Refused n))
+
+-- one job's step
+unfoldable pub stepNumber : Handed → Job → ℕ
+stepNumber h j =
+    orElse (pick (not (wellKind j)) 12 (frontOf h j))
+    (pick (eqb (j .done) (countOf (h .frame) j)) doneNumber (workRead (h .frame) (h .fields) (h .recs) j (j .done)))
+
+-- its steps done go up by one exactly when the step is counted
+unfoldable pub stepDone : Handed → Job → ℕ
+stepDone h j = pick (eqb (stepNumber h j) 0) (j .done + 1) (j .done)
+
+unfoldable pub stepProj : Handed → Job → List Patch
+stepProj h j = onProj j (accepted (stepNumber h j) (workScript (h .frame) (h .fields) (h .recs) j (j .done)))
+
+unfoldable pub stepSaved : Handed → Job → List Patch
+stepSaved h j = onSaved j (accepted (stepNumber h j) (workScript (h .frame) (h .fields) (h .recs) j (j .done)))
+
+-- the record with another number of steps done
+abbrev pub withDone : Job → ℕ → Job
+withDone j k = record { kind = j .kind; area = j .area; sby = j .sby; pass = j .pass; done = k }
+
+-- A STEP OF A BATCH, naming job k of it; a number that names none is refused
+unfoldable pub names : Batch → ℕ → Bool
+names b k = leb (b .n) 8 && ltb k (b .n)
+
+unfoldable pub turnNumber : Handed → Batch → ℕ → ℕ
+turnNumber h b k = pick (names b k) (stepNumber h (jobAt b k)) 12
+
+unfoldable pub turnProj : Handed → Batch → ℕ → List Patch
+turnProj h b k = accepted (turnNumber h b k) (stepProj h (jobAt b k))
+
+unfoldable pub turnSaved : Handed → Batch → ℕ → List Patch
+turnSaved h b k = accepted (turnNumber h b k) (stepSaved h (jobAt b k))
+
+unfoldable pub turnBatch : Handed → Batch → ℕ → Batch
+turnBatch h b k = pick (names b k) (record { n = b .n; jobs = set (b .jobs) k (withDone (jobAt b k) (stepDone h (jobAt b k))) }) b

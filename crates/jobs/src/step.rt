@@ -1,0 +1,200 @@
+// One step of a job.
+use crate::front::job_front;
+use crate::job::Answer;
+use crate::job::Batch;
+use crate::job::Job;
+use crate::job::Lengths;
+use crate::job::count_of;
+use crate::work::check_work;
+use crate::work::do_work;
+use frame::record::Frame;
+ghost use mathlib.Core.Path.{_≡_};
+ghost use lib.ListN.{length};
+ghost use Rattle.ground.specs.Script.{run};
+ghost use Rattle.loading.specs.Load.{lengthsOf, lent};
+ghost use Rattle.jobs.specs.Admit.{handed};
+ghost use Rattle.jobs.specs.Step.{answerOf, stepNumber, stepDone, stepProj, stepSaved, names, turnNumber, turnBatch, turnProj, turnSaved};
+
+// A job's answer, and its steps done afterwards.
+pub struct Stepped {
+    pub answer: Answer,
+    pub done: usize,
+}
+
+// The same of a batch.
+pub struct Turned {
+    pub answer: Answer,
+    pub batch: Batch,
+}
+
+// Neither 0 nor a refusal.
+pub const DONE: u8 = 15;
+
+pub fn answer_of(number: u8) -> Answer
+    ensures { λ r. ⌜ r ≡ answerOf number ⌝ }
+{
+    if number == 0 {
+        return Answer::Moved;
+    }
+    if number == DONE {
+        return Answer::Done;
+    }
+    Answer::Refused(number)
+}
+
+fn step_number<'a>(
+    job: Job,
+    f: Frame,
+    present: [u8; 7],
+    n: Lengths,
+    f0: &'a [u8],
+    f1: &'a [u8],
+    f2: &'a [u8],
+    f3: &'a [u8],
+    f4: &'a [u8],
+    f5: &'a [u8],
+    f6: &'a [u8],
+    recs: &[u8],
+) -> u8
+    requires { ⌜ (n .fields ≡ lengthsOf (lent (now f0) (now f1) (now f2) (now f3) (now f4) (now f5) (now f6))) × (n .recs ≡ length (now recs)) ⌝ }
+    ensures { λ r. ⌜ r ≡ stepNumber (handed f present (lent (now (f0 .entry)) (now (f1 .entry)) (now (f2 .entry)) (now (f3 .entry)) (now (f4 .entry)) (now (f5 .entry)) (now (f6 .entry))) (now (recs .entry)) (n .proj) (n .saved)) job ⌝ }
+{
+    if !job.well_kind() {
+        return 12;
+    }
+    let front = job_front(f, present, n, job);
+    if front != 0 {
+        return front;
+    }
+    if job.done == count_of(f, job) {
+        return DONE;
+    }
+    check_work(f, job, job.done, f0, f1, f2, f3, f4, f5, f6, recs)
+}
+
+// A refused step, and a finished job's, leave both buffers and the number of steps done.
+pub fn step_row<'a>(
+    job: Job,
+    f: Frame,
+    present: [u8; 7],
+    f0: &'a [u8],
+    f1: &'a [u8],
+    f2: &'a [u8],
+    f3: &'a [u8],
+    f4: &'a [u8],
+    f5: &'a [u8],
+    f6: &'a [u8],
+    recs: &[u8],
+    proj: &mut [u8],
+    saved: &mut [u8],
+) -> Stepped
+    ensures { λ r. ⌜ r ≡ record { answer = answerOf (stepNumber (handed f present (lent (now (f0 .entry)) (now (f1 .entry)) (now (f2 .entry)) (now (f3 .entry)) (now (f4 .entry)) (now (f5 .entry)) (now (f6 .entry))) (now (recs .entry)) (length (now (proj .entry))) (length (now (saved .entry)))) job); done = stepDone (handed f present (lent (now (f0 .entry)) (now (f1 .entry)) (now (f2 .entry)) (now (f3 .entry)) (now (f4 .entry)) (now (f5 .entry)) (now (f6 .entry))) (now (recs .entry)) (length (now (proj .entry))) (length (now (saved .entry)))) job } ⌝ }
+    ensures { λ _. ⌜ now (proj .exit) ≡ run (stepProj (handed f present (lent (now (f0 .entry)) (now (f1 .entry)) (now (f2 .entry)) (now (f3 .entry)) (now (f4 .entry)) (now (f5 .entry)) (now (f6 .entry))) (now (recs .entry)) (length (now (proj .entry))) (length (now (saved .entry)))) job) (now (proj .entry)) ⌝ }
+    ensures { λ _. ⌜ now (saved .exit) ≡ run (stepSaved (handed f present (lent (now (f0 .entry)) (now (f1 .entry)) (now (f2 .entry)) (now (f3 .entry)) (now (f4 .entry)) (now (f5 .entry)) (now (f6 .entry))) (now (recs .entry)) (length (now (proj .entry))) (length (now (saved .entry)))) job) (now (saved .entry)) ⌝ }
+{
+    let fields = [
+        f0.len(),
+        f1.len(),
+        f2.len(),
+        f3.len(),
+        f4.len(),
+        f5.len(),
+        f6.len(),
+    ];
+    let n = Lengths {
+        fields,
+        recs: recs.len(),
+        proj: proj.len(),
+        saved: saved.len(),
+    };
+    let number = step_number(job, f, present, n, f0, f1, f2, f3, f4, f5, f6, recs);
+    if number != 0 {
+        return Stepped {
+            answer: answer_of(number),
+            done: job.done,
+        };
+    }
+    do_work(
+        f,
+        job,
+        job.done,
+        f0,
+        f1,
+        f2,
+        f3,
+        f4,
+        f5,
+        f6,
+        recs,
+        proj,
+        saved,
+    );
+    Stepped {
+        answer: Answer::Moved,
+        done: job.done + 1,
+    }
+}
+
+fn is_named(batch: Batch, k: usize) -> bool
+    ensures { λ r. ⌜ r ≡ names batch k ⌝ }
+{
+    if 8 < batch.n {
+        return false;
+    }
+    k < batch.n
+}
+
+// Steps job k of a batch: the batch afterwards has that job's steps done.
+pub fn step_of<'a>(
+    batch: Batch,
+    k: usize,
+    f: Frame,
+    present: [u8; 7],
+    f0: &'a [u8],
+    f1: &'a [u8],
+    f2: &'a [u8],
+    f3: &'a [u8],
+    f4: &'a [u8],
+    f5: &'a [u8],
+    f6: &'a [u8],
+    recs: &[u8],
+    proj: &mut [u8],
+    saved: &mut [u8],
+) -> Turned
+    ensures { λ r. ⌜ r ≡ record { answer = answerOf (turnNumber (handed f present (lent (now (f0 .entry)) (now (f1 .entry)) (now (f2 .entry)) (now (f3 .entry)) (now (f4 .entry)) (now (f5 .entry)) (now (f6 .entry))) (now (recs .entry)) (length (now (proj .entry))) (length (now (saved .entry)))) batch k); batch = turnBatch (handed f present (lent (now (f0 .entry)) (now (f1 .entry)) (now (f2 .entry)) (now (f3 .entry)) (now (f4 .entry)) (now (f5 .entry)) (now (f6 .entry))) (now (recs .entry)) (length (now (proj .entry))) (length (now (saved .entry)))) batch k } ⌝ }
+    ensures { λ _. ⌜ now (proj .exit) ≡ run (turnProj (handed f present (lent (now (f0 .entry)) (now (f1 .entry)) (now (f2 .entry)) (now (f3 .entry)) (now (f4 .entry)) (now (f5 .entry)) (now (f6 .entry))) (now (recs .entry)) (length (now (proj .entry))) (length (now (saved .entry)))) batch k) (now (proj .entry)) ⌝ }
+    ensures { λ _. ⌜ now (saved .exit) ≡ run (turnSaved (handed f present (lent (now (f0 .entry)) (now (f1 .entry)) (now (f2 .entry)) (now (f3 .entry)) (now (f4 .entry)) (now (f5 .entry)) (now (f6 .entry))) (now (recs .entry)) (length (now (proj .entry))) (length (now (saved .entry)))) batch k) (now (saved .entry)) ⌝ }
+{
+    if !is_named(batch, k) {
+        return Turned {
+            answer: Answer::Refused(12),
+            batch,
+        };
+    }
+    let mut jobs = batch.jobs;
+    let mut job = jobs[k];
+    let s = step_row(
+        job,
+        f,
+        present,
+        f0,
+        f1,
+        f2,
+        f3,
+        f4,
+        f5,
+        f6,
+        recs,
+        proj,
+        saved,
+    );
+    let answer = s.answer;
+    job.done = s.done;
+    jobs[k] = job;
+    let n = batch.n;
+    let stepped = Batch { n, jobs };
+    Turned {
+        answer,
+        batch: stepped,
+    }
+}

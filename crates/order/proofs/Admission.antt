@@ -1,0 +1,92 @@
+-- What an admitted batch is: each job accepted, each row of its work readable, no two windows with a cell in common.
+-- Assumes nothing.
+use mathlib.Core.Path.{_≡_, refl}
+use mathlib.Core.Bool.{Bool, true, false, true≢false, not, _||_}
+use Prim.Native.Nat.{ℕ, zero, suc, _≤_, _<_}
+use native.Mathlib.Omega.{arith}
+use lib.Dec.{eqb, ltb}
+use borrow.Author.Tests.{ltb-false, eqb-false, not-true, not-false}
+use Rattle.ground.specs.Below.{allBelow}
+use Rattle.ground.specs.Pick.{pick}
+use Rattle.ground.specs.Span.{firstOf}
+use Rattle.ground.proofs.Answers.{refused-not, both-accept}
+use Rattle.ground.proofs.Belows as belows
+use Rattle.ground.proofs.Spans as spans
+use Rattle.frame.specs.declared.sizes.Sizes.{Sizes}
+use Rattle.frame.specs.Record.{wellFrame}
+use Rattle.frame.specs.Sizes.{wellSizes, partOf}
+use Rattle.saving.specs.declared.area.Area.{Area}
+use Rattle.saving.specs.Area.{wellArea, stripOf, windowOf}
+use Rattle.saving.proofs.Areas as areas
+use Rattle.jobs.specs.declared.job.Job.{Job}
+use Rattle.jobs.specs.declared.job.Batch.{Batch}
+use Rattle.jobs.specs.Admit.{Handed, lengthsIn, frontOf, jobAnswer, aloneAt, apart, batchAnswer}
+use Rattle.jobs.specs.Job.{jobAt, wellKind, countOf, workRead, jobReads}
+use Rattle.jobs.specs.Share.{meets}
+use Rattle.jobs.proofs.Fronts.{front}
+use Rattle.jobs.proofs.Shared.{Framed, Walked}
+
+-- one job
+pub record Fit (h : Handed) (j : Job) : Type 0 where
+  pub kind : wellKind j ≡ true
+  pub answer : jobAnswer h j ≡ 0
+  pub ahead : frontOf h j ≡ 0
+  pub frame : wellFrame (h .frame) ≡ true
+  pub area : wellArea (h .frame .sizes) (j .area) ≡ true
+  pub reads : (k : ℕ) → k < countOf (h .frame) j → workRead (h .frame) (h .fields) (h .recs) j k ≡ 0
+
+fit : (h : Handed) (j : Job) → wellKind j ≡ true → jobAnswer h j ≡ 0 → Fit h j
+unfolding jobAnswer jobReads
+fit h j k z =
+    let p = both-accept (frontOf h j) (jobReads (h .frame) (h .fields) (h .recs) j) z in
+    let q = front (h .frame) (h .present) (lengthsIn h) j (p .0) in
+    record {
+      kind = k;
+      answer = z;
+      ahead = p .0;
+      frame = q .frame;
+      area = q .area;
+      reads = λ i l. spans.all-accept (workRead (h .frame) (h .fields) (h .recs) j) 0 (countOf (h .frame) j) i (p .1) (omega arith) l;
+    }
+
+pub record Accepted (h : Handed) (b : Batch) : Type 0 where
+  pub some : 0 < b .n
+  pub few : b .n ≤ 8
+  pub each : (i : ℕ) → i < b .n → Fit h (jobAt b i)
+  pub alone : (i j : ℕ) → i < j → j < b .n → meets (h .frame) (jobAt b i) (jobAt b j) ≡ false
+
+pub accepted : (h : Handed) (b : Batch) → batchAnswer h b ≡ 0 → Accepted h b
+unfolding batchAnswer apart aloneAt
+accepted h b z =
+    let p = refused-not (eqb (b .n) 0 || ltb 8 (b .n)) 11 _ z in
+    let q = refused-not (not (allBelow (b .n) (λ i. wellKind (jobAt b i)))) 11 _ (p .1) in
+    let r = both-accept (firstOf (λ i. jobAnswer h (jobAt b i)) 0 (b .n)) (pick (apart (h .frame) b) 0 11) (q .1) in
+    let n = or-none (eqb (b .n) 0) (ltb 8 (b .n)) (p .0) in
+    record {
+      some = positive (b .n) (eqb-false (b .n) 0 (n .0));
+      few = ltb-false 8 (b .n) (n .1);
+      each = λ i l. fit h (jobAt b i) (belows.at (λ i. wellKind (jobAt b i)) (b .n) i (not-false _ (q .0)) l) (spans.all-accept (λ i. jobAnswer h (jobAt b i)) 0 (b .n) i (r .0) (omega arith) l);
+      alone = λ i j l m. not-true _ (belows.at (λ i. not (meets (h .frame) (jobAt b i) (jobAt b j))) j i (belows.at (aloneAt (h .frame) b) (b .n) j (yes-of (apart (h .frame) b) (r .1)) m) l);
+    }
+  where
+    or-none : (x y : Bool) → (x || y) ≡ false → (x ≡ false) × (y ≡ false)
+    or-none true y e = absurd (true≢false e)
+    or-none false y e = (refl, e)
+
+    positive : (n : ℕ) → (n ≡ 0 → ⊥) → 0 < n
+    positive zero f = absurd (f refl)
+    positive (suc n) f = omega arith
+
+    yes-of : (x : Bool) → _≡_ {A = ℕ} (pick x 0 11) 0 → x ≡ true
+    yes-of true e = refl
+    yes-of false e = absurd (omega arith)
+
+-- an accepted job's windows
+pub framed : (s : Sizes) (a : Area) → wellSizes s ≡ true → wellArea s a ≡ true → Framed (s .stride) (windowOf s a)
+unfolding windowOf
+framed s a e h =
+    record { part = partOf s (a .tile); stride = refl; start = refl; columns = areas.asked s a h .within; rows = areas.cut s a e h .few }
+
+pub walked : (s : Sizes) (a : Area) → wellSizes s ≡ true → wellArea s a ≡ true → Walked (s .stride) (stripOf s a)
+unfolding stripOf
+walked s a e h = record { stride = refl; columns = areas.cut s a e h .limit }

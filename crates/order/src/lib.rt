@@ -1,0 +1,2 @@
+// Steps in any order: a batch that was admitted, and a list of steps.
+pub mod play;
