@@ -1,16 +1,16 @@
 -- Vectors by component: when two are equal, ranges, and the bytes read again.
 -- Assumes nothing.
-use mathlib.Core.Path.{_≡_, refl, ap, ap₂, _∙_}
+use mathlib.Core.Path.{_≡_, refl, sym, ap, ap₂, _∙_}
 use mathlib.Core.Logic.{_↔_, _⊎_, ⊎-elim}
-use mathlib.Core.Bool.{true, and-eq-true-iff}
+use mathlib.Core.Bool.{true, false, and-eq-true-iff}
 use mathlib.Core.List.{List}
-use Prim.Native.Nat.{ℕ, _+_, _^_, _≤_, _<_}
+use Prim.Native.Nat.{ℕ, zero, suc, _+_, _^_, _≤_, _<_}
 use native.Mathlib.Omega.{arith}
 use lib.Dec.{leb}
-use lib.IntN.{ℤ, natAbs}
-use borrow.Author.Tests.{le-leb, leb-true}
+use lib.IntN.{ℤ, pos, negsuc, negℤ, natAbs}
+use borrow.Author.Tests.{le-leb, lt-leb, leb-true, ltb-true, ltb-false}
 use lib.ListN.{length}
-use lib.Signed.{mag}
+use lib.Signed.{mag, ltZ, leZ}
 use Rattle.ground.specs.Put.{put}
 use Rattle.ground.specs.Sign.{eqZ}
 use Rattle.ground.specs.Twos.{halfOf}
@@ -46,6 +46,29 @@ within-is m v = (
       let h = and-eq-true-iff (leb (natAbs (v .y)) m) (leb (natAbs (v .x)) m) .0 t in
       record { y = leb-true (natAbs (v .y)) m (h .0); x = leb-true (natAbs (v .x)) m (h .1) },
 )
+
+-- a number of 16 bits has a magnitude of at most 32,768
+pub half-most : (z : ℤ) → mag z < 2 ^ 15 → natAbs z ≤ 32768
+half-most (pos n) h = omega arith
+half-most (negsuc n) h = omega arith
+
+-- A bound on a magnitude, one end after the other: u is what the local read back, low and high the two ends.
+beneath : (m : ℕ) (z : ℤ) → ltZ z (negℤ (pos m)) ≡ true → leb (natAbs z) m ≡ false
+beneath zero (pos n) t = let h : n < 0 = ltb-true n 0 t in absurd (omega arith)
+beneath zero (negsuc n) t = lt-leb (suc n) 0 (omega arith)
+beneath (suc m) (pos n) t = cc
+beneath (suc m) (negsuc n) t = let h = ltb-true m n t in lt-leb (suc n) (suc m) (omega arith)
+
+above : (m : ℕ) (z : ℤ) → ltZ z (negℤ (pos m)) ≡ false → leZ z (pos m) ≡ leb (natAbs z) m
+above m (pos n) t = refl
+above zero (negsuc n) t = cc
+above (suc m) (negsuc n) t = let h = ltb-false m n t in sym (le-leb (suc n) (suc m) (omega arith))
+
+pub too-low : {u low : ℤ} (z : ℤ) (m : ℕ) → u ≡ z → low ≡ negℤ (pos m) → ltZ u low ≡ true → false ≡ leb (natAbs z) m
+too-low z m e f t = sym (beneath m z (sym (ap₂ ltZ e f) ∙ t))
+
+pub not-too-low : {u low high : ℤ} (z : ℤ) (m : ℕ) → u ≡ z → low ≡ negℤ (pos m) → high ≡ pos m → ltZ u low ≡ false → leZ u high ≡ leb (natAbs z) m
+not-too-low z m e f g t = ap₂ leZ e g ∙ above m z (sym (ap₂ ltZ e f) ∙ t)
 
 -- bytes laid elsewhere leave a vector
 pub mv-outside : (l : List ℕ) (j : ℕ) (bs : List ℕ) (i : ℕ) → (i + 4 ≤ j) ⊎ (j + length bs ≤ i) → mvAt (put l j bs) i ≡ mvAt l i

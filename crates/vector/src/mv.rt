@@ -1,11 +1,11 @@
 // The motion vector, and its four bytes.
-use ground::sign::magnitude;
 use ground::twos::read_half;
 use ground::twos::write_half;
 ghost use mathlib.Core.Path.{_≡_};
 ghost use Prim.Native.Nat.{_+_, _≤_};
 ghost use lib.ListN.{length};
-ghost use lib.IntN.{negℤ};
+ghost use lib.Dec.{leb};
+ghost use lib.IntN.{negℤ, natAbs};
 ghost use Rattle.ground.specs.Put.{put};
 ghost use Rattle.vector.specs.Vector.{Within, within, invalid, eqMv, both, mvAt, mvBytes};
 
@@ -13,6 +13,20 @@ ghost use Rattle.vector.specs.Vector.{Within, within, invalid, eqMv, bot
 pub struct Mv {
     pub y: i16,
     pub x: i16,
+}
+
+// In -most..=most: two comparisons of the number as it stands cost less than its magnitude.
+fn is_short(c: i16, most: u32) -> bool
+    ensures { λ r. ⌜ r ≡ leb (natAbs c) most ⌝ }
+{
+    if 32767 < most {
+        return true;
+    }
+    let high = most as i16;
+    if c < -high {
+        return false;
+    }
+    c <= high
 }
 
 impl Mv {
@@ -41,8 +55,8 @@ impl Mv {
     pub fn within(self, most: u32) -> bool
         ensures { λ r. ⌜ r ≡ within most self ⌝ }
     {
-        if magnitude(self.y) <= most {
-            magnitude(self.x) <= most
+        if is_short(self.y, most) {
+            is_short(self.x, most)
         } else {
             false
         }
