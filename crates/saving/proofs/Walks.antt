@@ -1,22 +1,27 @@
 -- A row's walk, block by block: what is read and what is laid where a block starts at column x, and where no block starts any more.
 -- Assumes nothing.
-use mathlib.Core.Path.{_≡_, refl, sym, ap, _∙_}
-use mathlib.Core.Bool.{not}
+use mathlib.Core.Path.{_≡_, refl, sym, ap, ap₂, _∙_}
+use mathlib.Core.Bool.{Bool, true, false, _&&_, not}
 use mathlib.Core.List.{List, [], _++_}
 use Prim.Native.Nat.{ℕ, zero, suc, _+_, _-_, _*_, _/_, _≤_, _<_}
 use native.Mathlib.Decide.{decLt}
 use native.Mathlib.Numerals.{sub-one}
 use native.Mathlib.Omega.{arith}
-use lib.Dec.{ltb, lit≤}
-use lib.ListN.{length}
+use lib.Dec.{ltb, eqb, lit≤}
+use lib.IntN.{pos, natAbs}
+use lib.ListN.{length, getD}
 use borrow.Author.Tests.{le-ltb, lt-ltb, ltb-true, ltb-false, not-false}
 use Rattle.ground.specs.Answer.{orElse}
+use Rattle.ground.specs.Pick.{pick}
+use Rattle.ground.specs.Sign.{fromTo}
+use Rattle.vector.specs.Vector.{within}
 use Rattle.ground.specs.Put.{put, copies}
 use Rattle.ground.specs.Script.{run}
 use Rattle.ground.proofs.Picks.{pick-true, pick-false}
 use Rattle.ground.proofs.Answers.{refused-not, both-accept, or-accepts, or-refuses}
 use Rattle.ground.proofs.Puts.{put-append, copies-length}
 use Rattle.cells.specs.declared.cell.Cell.{Cell}
+use Rattle.cells.specs.declared.block.Block.{Block}
 use Rattle.cells.specs.declared.size.Dims.{Dims}
 use Rattle.cells.specs.declared.size.Sized.{Sized}
 use Rattle.cells.specs.declared.size.Sized.the-variants.{Of, Refused}
@@ -25,12 +30,13 @@ use Rattle.cells.specs.Cell.{cellBytes}
 use Rattle.cells.specs.Block.{wellBlock}
 use Rattle.cells.proofs.Sizes.{narrow}
 use Rattle.frame.specs.declared.distances.RefHint.{RefHint}
+use Rattle.frame.specs.Record.{noHint}
 use Rattle.rows.specs.declared.table.Place.{Place}
 use Rattle.rows.specs.declared.table.Place.the-variants.{Absent, At}
 use Rattle.rows.specs.declared.table.RowEntry.{RowEntry}
 use Rattle.rows.specs.Table.{placeAt}
 use Rattle.saving.specs.declared.area.Strip.{Strip}
-use Rattle.saving.specs.Save.{chosen, halfWidth, cellsWide, recordOf, blockOn, wideOn, blockRead, walkRead, walkBytes, entryOf, placeRead, rowRead, placePatch}
+use Rattle.saving.specs.Save.{usable, usableBy, hintPlace, noCell, firstOfTwo, secondOfTwo, chosen, chosenBy, halfWidth, cellsWide, recordOf, blockOn, wideOn, recordRead, blockRead, walkRead, walkBytes, entryOf, placeRead, rowRead, placePatch}
 
 -- a block covers 1 to 16 cells
 pub record Wide (n : ℕ) : Type 0 where
@@ -58,6 +64,24 @@ pub wide-none : (code : ℕ) (z : Sized) → z ≡ sizeOf code → z ≡ Refused
 unfolding halfWidth
 wide-none code z e k = (ap halfWidth (sym k ∙ e), lit≤ tt, lit≤ tt)
 
+-- HINTS: read at the place of each reference, they say what all seven say
+either : (refs : List RefHint) (n : ℕ) (w b : Bool)
+    → (b && not (eqb (getD refs (pick b n 0) noHint .«mfmv_sign») 0) && w) ≡ (b && not (eqb (getD refs n noHint .«mfmv_sign») 0) && w)
+either refs n w true = refl
+either refs n w false = refl
+
+usable-by : (refs : List RefHint) (c : Cell) → usableBy (getD refs (hintPlace (c .reference .0)) noHint) c ≡ usable refs c
+unfolding usable usableBy hintPlace
+usable-by refs c = either refs (natAbs (c .reference .0) - 1) (within 4095 (c .mv)) (fromTo (pos 1) (pos 7) (c .reference .0))
+
+pub chosen-by : (refs : List RefHint) (b : Block) {h h' : RefHint} → h ≡ getD refs (hintPlace (b .refs .first .0)) noHint
+    → h' ≡ getD refs (hintPlace (b .refs .second .0)) noHint → chosenBy h h' b ≡ chosen refs b
+unfolding chosen chosenBy
+chosen-by refs b e e' =
+    ap₂ (λ (s t : Bool). pick s (secondOfTwo b) (pick t (firstOfTwo b) noCell))
+    (ap (λ (h : RefHint). usableBy h (secondOfTwo b)) e' ∙ usable-by refs (secondOfTwo b))
+    (ap (λ (h : RefHint). usableBy h (firstOfTwo b)) e ∙ usable-by refs (firstOfTwo b))
+
 -- a record's number with the column moved to the other side
 pub listed : (total o n : ℕ) {m : ℕ} → m ≡ n → m < total → ltb o (total - m) ≡ ltb (o + n) total
 listed total o n {m} e h = by (decLt o (total - m))
@@ -69,6 +93,11 @@ listed total o n {m} e h = by (decLt o (total - m))
 -- a record that is listed lies in a buffer that holds all that are
 pub record-fits : (total len k : ℕ) → k < total → 12 * total ≤ len → 12 * k + 12 ≤ len
 record-fits total len k h l = omega arith
+
+-- a record whose read accepts is listed
+pub record-there : (recs : List ℕ) (total o : ℕ) {r : ℕ} (x : ℕ) → r ≡ recordRead recs total o x → r ≡ 0 → recordOf o x < total
+unfolding recordRead
+record-there recs total o x e z = ltb-true _ _ (not-false _ (refused-not (not (ltb (recordOf o x) total)) 3 _ (sym e ∙ z) .0))
 
 -- READS
 module _ (recs : List ℕ) (total o limit : ℕ) where
@@ -84,6 +113,25 @@ module _ (recs : List ℕ) (total o limit : ℕ) where
       let p8 = refused-not (not (wellBlock (blockOn recs o x))) 7 _ (p4 .1) in
       let p9 = refused-not (ltb limit (x + wideOn recs o x)) 8 _ (p8 .1) in
       record { there = ltb-true _ _ (not-false _ (p4 .0)); fits = ltb-false _ _ (p9 .0) }
+
+  -- the record's answer, and where that accepts the limit's
+  two : (s t : Bool) (r : ℕ) → pick s 4 (pick t 8 r) ≡ orElse (pick s 4 (pick t 8 0)) r
+  two true t r = refl
+  two false true r = refl
+  two false false r = refl
+
+  by-record : (x : ℕ) → blockRead recs total o limit x ≡ orElse (recordRead recs total o x) (pick (ltb limit (x + wideOn recs o x)) 9 0)
+  unfolding blockRead recordRead
+  by-record x = two (not (ltb (recordOf o x) total)) (not (wellBlock (blockOn recs o x))) _
+
+  pub record-refuses : {r : ℕ} (x : ℕ) → r ≡ recordRead recs total o x → (r ≡ 0 → ⊥) → r ≡ blockRead recs total o limit x
+  record-refuses x e z = e ∙ sym (by-record x ∙ or-refuses (recordRead recs total o x) _ (λ y. z (e ∙ y)))
+
+  pub past-limit : {r m : ℕ} (x : ℕ) → r ≡ recordRead recs total o x → r ≡ 0 → m ≡ wideOn recs o x → limit < x + m → 9 ≡ blockRead recs total o limit x
+  past-limit x e z k h = sym (by-record x ∙ or-accepts (recordRead recs total o x) _ (sym e ∙ z) ∙ pick-true 0 (lt-ltb limit _ (rw (← k) h)))
+
+  pub up-to-limit : {r m : ℕ} (x : ℕ) → r ≡ recordRead recs total o x → r ≡ 0 → m ≡ wideOn recs o x → x + m ≤ limit → 0 ≡ blockRead recs total o limit x
+  up-to-limit x e z k h = sym (by-record x ∙ or-accepts (recordRead recs total o x) _ (sym e ∙ z) ∙ pick-false 9 (le-ltb limit _ (rw (← k) h)))
 
 module _ (recs : List ℕ) (total o end limit : ℕ) where
   pub none-left : (n x : ℕ) → end ≤ x → 0 ≡ walkRead recs total o end limit n x

@@ -12,7 +12,7 @@ ghost use mathlib.Core.Bool.{true};
 ghost use Prim.Native.Nat.{_-_, _≤_};
 ghost use lib.IntN.{pos, natAbs};
 ghost use Rattle.ground.specs.Sign.{fromTo};
-ghost use Rattle.saving.specs.Save.{usable, chosen, cellsWide};
+ghost use Rattle.saving.specs.Save.{hintPlace, usableBy, chosenBy, cellsWide};
 
 // The place of a reference, 1..7, in a table of seven.
 pub fn place_of(r: Ref) -> usize
@@ -22,33 +22,43 @@ pub fn place_of(r: Ref) -> usize
     byte_bits(r.0) as usize - 1
 }
 
-// A later load can only use a vector that points to a frame before this one, and not too far.
-fn is_usable(refs: [RefHint; 7], c: Cell) -> bool
-    ensures { λ a. ⌜ a ≡ usable refs c ⌝ }
+// Where a reference's hint stands among the seven; for one that has none any place will do.
+pub(crate) fn hint_place(r: Ref) -> usize
+    ensures { λ i. ⌜ (i ≡ hintPlace (r .0)) × (i ≤ 6) ⌝ }
+{
+    if r.from_to(1, 7) {
+        return place_of(r);
+    }
+    0
+}
+
+// A later load can only use a vector that points to a frame before this one, and not too far. The
+// hint is that of the cell's reference.
+fn is_usable(hint: RefHint, c: Cell) -> bool
+    ensures { λ a. ⌜ a ≡ usableBy hint c ⌝ }
 {
     let r = c.reference;
     if !r.from_to(1, 7) {
         return false;
     }
-    let hint = refs[place_of(r)];
     if hint.mfmv_sign == 0 {
         return false;
     }
     c.mv.within(4095)
 }
 
-// The second reference first; all zero where neither will do.
-pub(crate) fn choose(refs: [RefHint; 7], b: Block) -> Cell
-    ensures { λ r. ⌜ r ≡ chosen refs b ⌝ }
+// The second reference first; all zero where neither will do. The hints are those of the two.
+pub(crate) fn choose(hint: RefHint, hint2: RefHint, b: Block) -> Cell
+    ensures { λ r. ⌜ r ≡ chosenBy hint hint2 b ⌝ }
 {
     let mv = b.mv;
     let by = b.refs;
     let second = cell_of(mv.second, by.second);
-    if is_usable(refs, second) {
+    if is_usable(hint2, second) {
         return second;
     }
     let first = cell_of(mv.first, by.first);
-    if is_usable(refs, first) {
+    if is_usable(hint, first) {
         return first;
     }
     cell_of(Mv::ZERO, Ref::INTRA)
@@ -61,11 +71,45 @@ fn cell_of(mv: Mv, reference: Ref) -> Cell
 }
 
 // A block's width in cells: a narrow block counts as one.
-pub(crate) fn cells_wide(code: u8) -> usize
+fn cells_wide(code: u8) -> usize
     ensures { λ r. ⌜ (r ≡ cellsWide code) × (1 ≤ r) × (r ≤ 16) ⌝ }
 {
     match dimensions(code) {
         Sized::Of(d) => d.w.halved_up().0,
         Sized::Refused => 1,
+    }
+}
+
+// A size code, and the width of its blocks in cells. Two fields of one size: a struct with a gap in it
+// would be copied through memory for each block.
+pub struct Width {
+    pub code: usize,
+    pub cells: usize,
+}
+
+// That of the smallest blocks, for a walk to start with.
+pub(crate) fn narrowest() -> Width
+    ensures { λ r. ⌜ r .cells ≡ cellsWide (r .code) ⌝ }
+{
+    Width {
+        code: 21,
+        cells: cells_wide(21),
+    }
+}
+
+// The width of a block, by that of the block before it. Blocks of one size come in runs: while the
+// code stays, a processor that guesses the test goes on to the next block with the width at hand,
+// and doesn't wait for the code and the table.
+pub(crate) fn width_after(last: Width, bs: u8) -> Width
+    requires { ⌜ last .cells ≡ cellsWide (last .code) ⌝ }
+    ensures { λ r. ⌜ (r .code ≡ bs) × (r .cells ≡ cellsWide bs) × (1 ≤ r .cells) × (r .cells ≤ 16) ⌝ }
+{
+    let code = bs as usize;
+    if code == last.code {
+        return last;
+    }
+    Width {
+        code,
+        cells: cells_wide(bs),
     }
 }

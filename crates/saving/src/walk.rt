@@ -1,7 +1,10 @@
 // A row of a save: the row's blocks from left to right, each read once at its first cell.
 use crate::area::Strip;
-use crate::choose::cells_wide;
+use crate::choose::Width;
 use crate::choose::choose;
+use crate::choose::hint_place;
+use crate::choose::narrowest;
+use crate::choose::width_after;
 use cells::block::Block;
 use cells::cell::Cell;
 use cells::pos::Pos8;
@@ -17,7 +20,7 @@ ghost use Rattle.ground.specs.Put.{put, copies};
 ghost use Rattle.ground.specs.Script.{run};
 ghost use Rattle.cells.specs.Cell.{cellBytes};
 ghost use Rattle.saving.specs.Rooms.{RowRoom};
-ghost use Rattle.saving.specs.Save.{recordOf, blockOn, wideOn, blockRead, walkRead, walkBytes, entryOf, placeRead, rowRead, placePatch, rowPatch};
+ghost use Rattle.saving.specs.Save.{recordOf, cellsWide, blockOn, wideOn, recordRead, walkRead, walkBytes, entryOf, placeRead, rowRead, placePatch, rowPatch};
 
 // Whether the record that cell x is saved from is one of the listed.
 fn is_listed(total: usize, o: usize, x: usize) -> bool
@@ -39,26 +42,24 @@ fn block_of(recs: &[u8], o: usize, x: usize) -> Block
     Block::read(recs, o + Pos8(x).odd().0)
 }
 
-fn check_block(recs: &[u8], total: usize, o: usize, limit: usize, x: usize) -> u8
+// Whether the record that cell x is saved from can be read, and is well formed.
+fn check_record(recs: &[u8], total: usize, o: usize, x: usize) -> u8
     requires { ⌜ (x ≤ 65536) × (12 * total ≤ length (now recs)) ⌝ }
-    ensures { λ r. ⌜ r ≡ blockRead (now (recs .entry)) total o limit x ⌝ }
+    ensures { λ r. ⌜ r ≡ recordRead (now (recs .entry)) total o x ⌝ }
 {
     if !is_listed(total, o, x) {
         return 4;
     }
     let b = block_of(recs, o, x);
-    if !b.well_formed() {
-        return 8;
-    }
-    if limit < x + cells_wide(b.bs) { 9 } else { 0 }
+    if b.well_formed() { 0 } else { 8 }
 }
 
-fn wide_at(recs: &[u8], o: usize, x: usize) -> usize
-    requires { ⌜ (x ≤ 65536) × (12 * recordOf o x + 12 ≤ length (now recs)) ⌝ }
-    ensures { λ r. ⌜ (r ≡ wideOn (now (recs .entry)) o x) × (1 ≤ r) × (r ≤ 16) ⌝ }
+fn width_at(recs: &[u8], o: usize, x: usize, last: Width) -> Width
+    requires { ⌜ (x ≤ 65536) × (12 * recordOf o x + 12 ≤ length (now recs)) × (last .cells ≡ cellsWide (last .code)) ⌝ }
+    ensures { λ r. ⌜ (r .cells ≡ wideOn (now (recs .entry)) o x) × (r .cells ≡ cellsWide (r .code)) × (1 ≤ r .cells) × (r .cells ≤ 16) ⌝ }
 {
     let b = block_of(recs, o, x);
-    cells_wide(b.bs)
+    width_after(last, b.bs)
 }
 
 // The first read that fails answers. total is how many records are listed.
@@ -67,12 +68,17 @@ fn check_walk(recs: &[u8], total: usize, o: usize, w: Strip) -> u8
     ensures { λ r. ⌜ r ≡ walkRead (now (recs .entry)) total o (w .end) (w .limit) (w .end - w .left) (w .left) ⌝ }
 {
     let mut x = w.left;
+    let mut last = narrowest();
     while x < w.end {
-        let answer = check_block(recs, total, o, w.limit, x);
+        let answer = check_record(recs, total, o, x);
         if answer != 0 {
             return answer;
         }
-        x += wide_at(recs, o, x);
+        last = width_at(recs, o, x, last);
+        x += last.cells;
+        if w.limit < x {
+            return 9;
+        }
     }
     0
 }
@@ -91,7 +97,8 @@ fn fill_cells(field: &mut [u8], c: Cell, at: usize, n: usize)
     }
 }
 
-// first is the number of the row's first cell.
+// first is the number of the row's first cell. The hints are read here and not by `choose`, which
+// would be handed a copy of all seven for each block.
 fn write_walk(
     recs: &[u8],
     total: usize,
@@ -106,11 +113,15 @@ fn write_walk(
     ensures { λ _. ⌜ now (field .exit) ≡ put (now (field .entry)) (5 * (first + w .left)) (walkBytes (now (recs .entry)) refs o (w .end) (w .end - w .left) (w .left)) ⌝ }
 {
     let mut x = w.left;
+    let mut last = narrowest();
     while x < w.end {
         let b = block_of(recs, o, x);
-        let n = cells_wide(b.bs);
-        fill_cells(field, choose(refs, b), first + x, n);
-        x += n;
+        let by = b.refs;
+        let hint = refs[hint_place(by.first)];
+        let hint2 = refs[hint_place(by.second)];
+        last = width_after(last, b.bs);
+        fill_cells(field, choose(hint, hint2, b), first + x, last.cells);
+        x += last.cells;
     }
 }
 

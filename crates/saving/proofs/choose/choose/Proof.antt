@@ -1,6 +1,6 @@
 -- `saving::choose::choose` meets its contract.
 -- Assumes nothing.
-use Rattle.saving.specs.Save.{chosen}
+use Rattle.saving.specs.Save.{chosenBy}
 use borrow.Author.Needs.{needs}
 use Rattle.saving.proofs.choose.choose.Statement.{statement}
 use Rattle.saving.proofs.choose.choose.Tie as tie
@@ -12,7 +12,7 @@ is-usable-requires : tie.Need-is-usable-requires
 is-usable-requires c κs = search needs
 
 returns : tie.Need-returns
-unfolding chosen
+unfolding chosenBy
 returns c = rw (← c .before .before .cell-of .ensures, ← c .before .is-usable .ensures, c .if1 .taken)
 
 cell-of-requires-2 : tie.Need-cell-of-requires-2
@@ -22,14 +22,14 @@ is-usable-requires-2 : tie.Need-is-usable-requires-2
 is-usable-requires-2 c κs = search needs
 
 returns-2 : tie.Need-returns-2
-unfolding chosen
+unfolding chosenBy
 returns-2 c = rw (← c .before .before .before .before .before .cell-of .ensures, ← c .before .before .before .before .is-usable .ensures, c .before .before .before .if1 .left, ← c .before .before .cell-of2 .ensures, ← c .before .is-usable2 .ensures, c .if2 .taken)
 
 cell-of-requires-3 : tie.Need-cell-of-requires-3
 cell-of-requires-3 c κs = search needs
 
 returns-3 : tie.Need-returns-3
-unfolding chosen
+unfolding chosenBy
 returns-3 c = rw (← c .before .before .before .before .before .before .cell-of .ensures, ← c .before .before .before .before .before .is-usable .ensures, c .before .before .before .before .if1 .left, ← c .before .before .before .cell-of2 .ensures, ← c .before .before .is-usable2 .ensures, c .before .if2 .left, c .cell-of3 .ensures)
 
 pub choose-spec : {M : Type 1} → statement M

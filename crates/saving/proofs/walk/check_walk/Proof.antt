@@ -4,41 +4,60 @@ use mathlib.Core.Path.{_≡_, refl, _∙_}
 use native.Mathlib.Omega.{arith}
 use native.Mathlib.Nat.{le-refl}
 use Prim.Native.Nat.{ℕ, _-_, _≤_}
-use Rattle.saving.specs.Save.{walkRead}
-use Rattle.saving.proofs.Walks.{record-fits, passed, none-left, stops, next}
+use Rattle.saving.specs.Save.{cellsWide, walkRead}
+use Rattle.saving.proofs.Walks.{record-fits, record-there, record-refuses, past-limit, up-to-limit, none-left, stops, next}
 use borrow.Author.Needs.{needs}
 use Rattle.saving.proofs.walk.check_walk.Statement.{statement}
 use Rattle.saving.proofs.walk.check_walk.Tie as tie
 
 abbrev Inv-loop : tie.InvT-loop
-Inv-loop recs total o w x₀ x = (k : ℕ) × (w .end - x ≤ k) × (walkRead recs total o (w .end) (w .limit) k x ≡ walkRead recs total o (w .end) (w .limit) (w .end - w .left) (w .left))
+Inv-loop recs total o w x₀ last₀ x last =
+    (k : ℕ) × (w .end - x ≤ k) × (last .cells ≡ cellsWide (last .code))
+    × (walkRead recs total o (w .end) (w .limit) k x ≡ walkRead recs total o (w .end) (w .limit) (w .end - w .left) (w .left))
 
 abbrev μ-loop : tie.MeasureT-loop
-μ-loop recs total o w x₀ x = w .end - x
+μ-loop recs total o w x₀ last₀ x last = w .end - x
+
+narrowest-requires : tie.Need-narrowest-requires Inv-loop μ-loop
+narrowest-requires c κs = search needs
 
 loop-holds : tie.Need-loop-holds Inv-loop μ-loop
-loop-holds c = (_, le-refl _, refl)
+loop-holds c = (_, le-refl _, c .narrowest .ensures, refl)
 
-check-block-requires : tie.Need-check-block-requires Inv-loop μ-loop
-check-block-requires c κs = let p = c .before .before .before .before .pre in let t = c .if1 .taken in (omega arith, p .1)
+check-record-requires : tie.Need-check-record-requires Inv-loop μ-loop
+check-record-requires c κs = let p = c .before .before .before .before .before .pre in let t = c .if1 .taken in (omega arith, p .1)
 
 returns : tie.Need-returns Inv-loop μ-loop
-returns c = let l = c .before .before .before .before .loop in stops _ _ _ _ _ _ _ (l .inv .1) (c .before .before .if1 .taken) (c .before .check-block .ensures) (c .if2 .taken) ∙ l .inv .2
+returns c =
+    let i = c .before .before .before .before .loop .inv in
+    stops _ _ _ _ _ _ _ (i .1) (c .before .before .if1 .taken) (record-refuses _ _ _ _ _ (c .before .check-record .ensures) (c .if2 .taken)) (c .if2 .taken) ∙ i .3
 
-wide-at-requires : tie.Need-wide-at-requires Inv-loop μ-loop
-wide-at-requires c κs = let p = c .before .before .before .before .before .before .pre in let t = c .before .before .if1 .taken in (omega arith, record-fits _ _ _ (passed _ _ _ _ _ (c .before .check-block .ensures) (c .if2 .left) .there) (p .1))
+width-at-requires : tie.Need-width-at-requires Inv-loop μ-loop
+width-at-requires c κs =
+    let p = c .before .before .before .before .before .before .before .pre in
+    let t = c .before .before .if1 .taken in
+    (omega arith, record-fits _ _ _ (record-there _ _ _ _ (c .before .check-record .ensures) (c .if2 .left)) (p .1), c .before .before .before .before .loop .inv .2)
 
 add-x : tie.Need-add-x Inv-loop μ-loop
-add-x c = search needs
-
-loop-less : tie.Need-loop-less Inv-loop μ-loop
-loop-less c = search needs
-
-loop-again : tie.Need-loop-again Inv-loop μ-loop
-loop-again c = let l = c .before .before .before .before .before .loop in (l .inv .0 - 1, omega arith, next _ _ _ _ _ _ _ (l .inv .1) (c .before .before .before .if1 .taken) (c .before .before .check-block .ensures) (c .before .if2 .left) (c .wide-at .ensures .0) ∙ l .inv .2)
+add-x c = let t = c .before .before .before .before .if1 .taken in let e = c .before .width-at .ensures in search needs
 
 returns-2 : tie.Need-returns-2 Inv-loop μ-loop
-returns-2 c = none-left _ _ _ _ _ _ _ (c .if1 .left) ∙ c .before .before .loop .inv .2
+returns-2 c =
+    let i = c .before .before .before .before .before .before .before .before .loop .inv in
+    stops _ _ _ _ _ _ _ (i .1) (c .before .before .before .before .before .before .if1 .taken) (past-limit _ _ _ _ _ (c .before .before .before .before .before .check-record .ensures) (c .before .before .before .before .if2 .left) (c .before .before .before .width-at .ensures .0) (c .if3 .taken)) (λ z. absurd (omega arith)) ∙ i .3
+
+loop-less : tie.Need-loop-less Inv-loop μ-loop
+loop-less c = let t = c .before .before .before .before .before .before .if1 .taken in let e = c .before .before .before .width-at .ensures in search needs
+
+loop-again : tie.Need-loop-again Inv-loop μ-loop
+loop-again c =
+    let i = c .before .before .before .before .before .before .before .before .loop .inv in
+    let e = c .before .before .before .width-at .ensures in
+    let z = up-to-limit _ _ _ _ _ (c .before .before .before .before .before .check-record .ensures) (c .before .before .before .before .if2 .left) (e .0) (c .if3 .left) in
+    (i .0 - 1, omega (arith, i .1, e .2), e .1, next _ _ _ _ _ _ _ (i .1) (c .before .before .before .before .before .before .if1 .taken) z refl (e .0) ∙ i .3)
+
+returns-3 : tie.Need-returns-3 Inv-loop μ-loop
+returns-3 c = none-left _ _ _ _ _ _ _ (c .if1 .left) ∙ c .before .before .loop .inv .3
 
 pub check-walk-spec : {M : Type 1} → statement M
 check-walk-spec =
@@ -46,11 +65,13 @@ check-walk-spec =
     (tie.spec
     Inv-loop
     μ-loop
+    narrowest-requires
     loop-holds
-    check-block-requires
+    check-record-requires
     returns
-    wide-at-requires
+    width-at-requires
     add-x
+    returns-2
     loop-less
     loop-again
-    returns-2)
+    returns-3)
