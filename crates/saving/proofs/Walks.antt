@@ -34,9 +34,10 @@ use Rattle.frame.specs.Record.{noHint}
 use Rattle.rows.specs.declared.table.Place.{Place}
 use Rattle.rows.specs.declared.table.Place.the-variants.{Absent, At}
 use Rattle.rows.specs.declared.table.RowEntry.{RowEntry}
-use Rattle.rows.specs.Table.{placeAt}
+use Rattle.rows.specs.Table.{none, placeAt}
+use Rattle.rows.proofs.Splats.{entry-at}
 use Rattle.saving.specs.declared.area.Strip.{Strip}
-use Rattle.saving.specs.Save.{usable, usableBy, hintPlace, noCell, firstOfTwo, secondOfTwo, chosen, chosenBy, halfWidth, cellsWide, recordOf, blockOn, wideOn, recordRead, blockRead, walkRead, walkBytes, entryOf, placeRead, rowRead, placePatch}
+use Rattle.saving.specs.Save.{usable, usableBy, hintPlace, noCell, firstOfTwo, secondOfTwo, chosen, chosenBy, halfWidth, cellsWide, recordOf, blockOn, wideOn, recordRead, blockRead, walkRead, walkBytes, entryOf, placeRead, stripRead, rowRead, placePatch, rowPatch}
 
 -- a block covers 1 to 16 cells
 pub record Wide (n : ℕ) : Type 0 where
@@ -185,6 +186,10 @@ module _ (recs : List ℕ) (refs : List RefHint) (o end : ℕ) where
       let e : 5 * (k + (x + m)) ≡ 5 * (k + x) + length (copies m (cellBytes c)) = omega arith in
       rw (row-opened n x fuel more, ← em, ← ec, put-append, ← et) (ap (λ (i : ℕ). put t i (walkBytes recs refs o end (n - 1) (x + m))) e)
 
+-- an entry of the table is the place of its row
+pub row-entry : {e : ℕ} (rows : List RowEntry) (y : ℕ) → (e ≡ entryOf y) × (e < 37) → getD rows e none .at ≡ placeAt rows (entryOf y)
+row-entry {e} rows y h = entry-at rows e (h .1) ∙ ap (placeAt rows) (h .0)
+
 -- A ROW, by its entry's place: where its columns are none, an entry that is absent does no harm
 module _ (recs : List ℕ) (total : ℕ) (w : Strip) where
   pub place-walk : (p : Place) (o : ℕ) → p ≡ At o → (w .left < w .end → placeRead recs total w p ≡ 0)
@@ -201,6 +206,11 @@ module _ (recs : List ℕ) (total : ℕ) (w : Strip) where
   unfolding rowRead
   row-place rows y e z h = ap (placeRead recs total w) e ∙ sym (pick-true 0 (lt-ltb (w .left) (w .end) h)) ∙ z
 
+  pub row-read : {p : Place} {r : ℕ} (rows : List RowEntry) (y : ℕ) → p ≡ placeAt rows (entryOf y) → r ≡ stripRead recs total w p
+      → r ≡ rowRead recs total rows w y
+  unfolding rowRead stripRead
+  row-read rows y e k = k ∙ ap (λ (q : Place). pick (ltb (w .left) (w .end)) (placeRead recs total w q) 0) e
+
 module _ (recs : List ℕ) (refs : List RefHint) (w : Strip) (y : ℕ) where
   pub place-absent : (s : List ℕ) (p : Place) → p ≡ Absent → s ≡ run (placePatch recs refs w y p) s
   unfolding placePatch run
@@ -211,3 +221,8 @@ module _ (recs : List ℕ) (refs : List RefHint) (w : Strip) (y : ℕ) where
       → t ≡ run (placePatch recs refs w y p) s
   unfolding placePatch run
   place-at s p o e h = h ∙ rw e
+
+  pub row-patch : (s : List ℕ) {t : List ℕ} {p : Place} (rows : List RowEntry) → p ≡ placeAt rows (entryOf y)
+      → t ≡ run (placePatch recs refs w y p) s → t ≡ run (rowPatch recs rows refs w y) s
+  unfolding rowPatch
+  row-patch s rows e k = k ∙ ap (λ (q : Place). run (placePatch recs refs w y q) s) e

@@ -111,6 +111,10 @@ unfoldable pub placeRead : List ℕ → ℕ → Strip → Place → ℕ
 placeRead recs total w Absent = 6
 placeRead recs total w (At o) = walkRead recs total o (w .end) (w .limit) (w .end - w .left) (w .left)
 
+-- where no block is walked
+unfoldable pub stripRead : List ℕ → ℕ → Strip → Place → ℕ
+stripRead recs total w p = pick (ltb (w .left) (w .end)) (placeRead recs total w p) 0
+
 unfoldable pub rowRead : List ℕ → ℕ → List RowEntry → Strip → ℕ → ℕ
 rowRead recs total rows w y = pick (ltb (w .left) (w .end)) (placeRead recs total w (placeAt rows (entryOf y))) 0
 

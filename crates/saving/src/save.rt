@@ -1,8 +1,9 @@
 // The save of a frame's motion, the Rust's `save_tmvs`.
 use crate::area::Area;
 use crate::area::Strip;
-use crate::walk::check_row;
-use crate::walk::save_row;
+use crate::walk::check_at;
+use crate::walk::entry_of;
+use crate::walk::write_place;
 use frame::distances::RefHint;
 use frame::record::Frame;
 use rows::setup::is_pass;
@@ -36,13 +37,18 @@ pub fn save_front(f: Frame, a: Area, pass: usize, nrecs: usize, nfield: usize) -
     if nrecs < 12 * s.records() { 4 } else { 0 }
 }
 
+// Entries of the table are read here and not by `place_at`, which would be handed a copy of it for
+// each row.
 fn check_rows(recs: &[u8], total: usize, rows: [RowEntry; 37], w: Strip) -> u8
     requires { ⌜ (w .end ≤ 65536) × (12 * total ≤ length (now recs)) ⌝ }
     ensures { λ r. ⌜ r ≡ firstOf (rowRead (now (recs .entry)) total rows w) (w .top) (w .bottom) ⌝ }
 {
     let mut y = w.top;
     while y < w.bottom {
-        let answer = check_row(recs, total, rows, w, y);
+        let e = entry_of(y);
+        let entry = rows[e];
+        let at = entry.at;
+        let answer = check_at(recs, total, w, at);
         if answer != 0 {
             return answer;
         }
@@ -65,7 +71,10 @@ fn save_rows(
 {
     let mut y = w.top;
     while y < w.bottom {
-        save_row(recs, total, rows, refs, w, y, field);
+        let e = entry_of(y);
+        let entry = rows[e];
+        let at = entry.at;
+        write_place(recs, total, at, refs, w, y, field);
         y += 1;
     }
 }

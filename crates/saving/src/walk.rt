@@ -20,7 +20,7 @@ ghost use Rattle.ground.specs.Put.{put, copies};
 ghost use Rattle.ground.specs.Script.{run};
 ghost use Rattle.cells.specs.Cell.{cellBytes};
 ghost use Rattle.saving.specs.Rooms.{RowRoom};
-ghost use Rattle.saving.specs.Save.{recordOf, cellsWide, blockOn, wideOn, recordRead, walkRead, walkBytes, entryOf, placeRead, rowRead, placePatch, rowPatch};
+ghost use Rattle.saving.specs.Save.{recordOf, cellsWide, blockOn, wideOn, recordRead, walkRead, walkBytes, entryOf, placeRead, stripRead, rowRead, placePatch, rowPatch};
 
 // Whether the record that cell x is saved from is one of the listed.
 fn is_listed(total: usize, o: usize, x: usize) -> bool
@@ -126,8 +126,8 @@ fn write_walk(
 }
 
 // The entry of a row of cells: the table's own rows stand behind five above.
-fn entry_of(y: usize) -> usize
-    ensures { λ r. ⌜ r ≡ entryOf y ⌝ }
+pub(crate) fn entry_of(y: usize) -> usize
+    ensures { λ r. ⌜ (r ≡ entryOf y) × (r < 37) ⌝ }
 {
     6 + 2 * (y % 16)
 }
@@ -142,18 +142,27 @@ fn check_place(recs: &[u8], total: usize, w: Strip, p: Place) -> u8
     }
 }
 
+// What a row of a save reads whose place is p.
+pub(crate) fn check_at(recs: &[u8], total: usize, w: Strip, p: Place) -> u8
+    requires { ⌜ (w .end ≤ 65536) × (12 * total ≤ length (now recs)) ⌝ }
+    ensures { λ r. ⌜ r ≡ stripRead (now (recs .entry)) total w p ⌝ }
+{
+    if w.left < w.end {
+        return check_place(recs, total, w, p);
+    }
+    0
+}
+
 // What row y of a save reads.
 pub fn check_row(recs: &[u8], total: usize, rows: [RowEntry; 37], w: Strip, y: usize) -> u8
     requires { ⌜ (w .end ≤ 65536) × (12 * total ≤ length (now recs)) ⌝ }
     ensures { λ r. ⌜ r ≡ rowRead (now (recs .entry)) total rows w y ⌝ }
 {
-    if w.left < w.end {
-        return check_place(recs, total, w, place_at(rows, entry_of(y)));
-    }
-    0
+    check_at(recs, total, w, place_at(rows, entry_of(y)))
 }
 
-fn write_place(
+// Row y of a save, whose place is p and whose reads have passed.
+pub(crate) fn write_place(
     recs: &[u8],
     total: usize,
     p: Place,

@@ -9,31 +9,50 @@ use Rattle.ground.specs.Script.{run}
 use Rattle.ground.specs.Span.{span}
 use Rattle.ground.proofs.Spans.{start, more, stop, all-accept}
 use Rattle.saving.specs.Save.{rowPatch}
+use Rattle.saving.proofs.Walks.{row-entry, row-place, row-patch}
 use Rattle.saving.proofs.Saves.{row-room}
 use borrow.Author.Needs.{needs}
 use Rattle.saving.proofs.save.save_rows.Statement.{statement}
 use Rattle.saving.proofs.save.save_rows.Tie as tie
 
 abbrev Inv-loop : tie.InvT-loop
-Inv-loop recs total rows refs w field₀ y₀ field y = (w .top ≤ y) × (y - w .top ≤ w .bottom - w .top) × (length field ≡ length field₀) × (field ≡ run (span (rowPatch recs rows refs w) (w .top) y) field₀)
+Inv-loop recs total refs w field₀ rows y₀ field y = (w .top ≤ y) × (y - w .top ≤ w .bottom - w .top) × (length field ≡ length field₀) × (field ≡ run (span (rowPatch recs rows refs w) (w .top) y) field₀)
 
 abbrev μ-loop : tie.MeasureT-loop
-μ-loop recs total rows refs w field₀ y₀ field y = w .bottom - y
+μ-loop recs total refs w field₀ rows y₀ field y = w .bottom - y
 
 loop-holds : tie.Need-loop-holds Inv-loop μ-loop
-loop-holds c = let a = c .before .before .args in (le-refl _, omega arith, refl, start _ _ _)
+loop-holds c = (le-refl _, omega arith, refl, start _ _ _)
 
-save-row-requires : tie.Need-save-row-requires Inv-loop μ-loop
-save-row-requires c κs = let p = c .before .before .before .before .before .before .pre in let l = c .before .before .before .loop in (row-room _ _ _ _ _ (p .0) (l .inv .2) (c .before .if1 .taken), all-accept _ _ _ _ (p .1) (l .inv .0) (c .before .if1 .taken))
+entry-of-requires : tie.Need-entry-of-requires Inv-loop μ-loop
+entry-of-requires c κs = search needs
+
+mul-entry : tie.Need-mul-entry Inv-loop μ-loop
+mul-entry c = search needs
+
+array-copy-out-entry : tie.Need-array-copy-out-entry Inv-loop μ-loop
+array-copy-out-entry c = search needs
+
+write-place-requires : tie.Need-write-place-requires Inv-loop μ-loop
+write-place-requires c κs =
+    let a = c .before .before .before .before .before .before .before .before in
+    let i = c .before .before .before .before .before .loop .inv in
+    let t = c .before .before .before .if1 .taken in
+    (row-room _ _ _ _ _ (a .pre .0) (i .2) t, row-place _ _ (a .args .w) (a .args .t3) _ (row-entry (a .args .t3) _ (c .before .before .entry-of .ensures)) (all-accept _ _ _ _ (a .pre .1) (i .0) t))
 
 add-y : tie.Need-add-y Inv-loop μ-loop
-add-y c = let t = c .before .before .before .before .if1 .taken in search needs
+add-y c = let t = c .before .before .before .before .before .before .if1 .taken in search needs
 
 loop-less : tie.Need-loop-less Inv-loop μ-loop
-loop-less c = let t = c .before .before .before .before .if1 .taken in search needs
+loop-less c = let t = c .before .before .before .before .before .before .if1 .taken in search needs
 
 loop-again : tie.Need-loop-again Inv-loop μ-loop
-loop-again c = let l = c .before .before .before .before .before .before .loop in let i = l .inv in let t = c .before .before .before .before .if1 .taken in (omega (arith, i .0), omega (arith, i .0), c .before .before .save-row .kept .1 .1 .1 .1 .1 .1 .0 ∙ i .2, more _ _ _ (i .0) _ (i .3) (c .before .before .save-row .ensures))
+loop-again c =
+    let a = c .before .before .before .before .before .before .before .before .before .before .before .args in
+    let i = c .before .before .before .before .before .before .before .before .loop .inv in
+    let t = c .before .before .before .before .before .before .if1 .taken in
+    let f = c .before .before .write-place in
+    (omega (arith, i .0), omega (arith, i .0), f .kept .1 .1 .1 .1 .1 .1 .0 ∙ i .2, more _ _ _ (i .0) _ (i .3) (row-patch _ (a .refs) (a .w) _ _ (a .t3) (row-entry (a .t3) _ (c .before .before .before .before .before .entry-of .ensures)) (f .ensures)))
 
 same-length : tie.Need-same-length Inv-loop μ-loop
 same-length c = c .before .before .loop .inv .2
@@ -48,7 +67,10 @@ save-rows-spec =
     Inv-loop
     μ-loop
     loop-holds
-    save-row-requires
+    entry-of-requires
+    mul-entry
+    array-copy-out-entry
+    write-place-requires
     add-y
     loop-less
     loop-again

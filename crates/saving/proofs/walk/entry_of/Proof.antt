@@ -1,6 +1,7 @@
 -- `saving::walk::entry_of` meets its contract.
 -- Assumes nothing.
 use mathlib.Core.Path.{refl}
+use native.Mathlib.Omega.{arith}
 use Rattle.saving.specs.Save.{entryOf}
 use borrow.Author.Needs.{needs}
 use Rattle.saving.proofs.walk.entry_of.Statement.{statement}
@@ -14,7 +15,7 @@ add-result c = search needs
 
 returns : tie.Need-returns
 unfolding entryOf
-returns c = refl
+returns c = (refl, omega arith)
 
 pub entry-of-spec : {M : Type 1} → statement M
 entry-of-spec = tie.close (tie.spec mul-result add-result returns)
