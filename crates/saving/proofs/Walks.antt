@@ -83,22 +83,26 @@ chosen-by refs b e e' =
     (ap (λ (h : RefHint). usableBy h (secondOfTwo b)) e' ∙ usable-by refs (secondOfTwo b))
     (ap (λ (h : RefHint). usableBy h (firstOfTwo b)) e ∙ usable-by refs (firstOfTwo b))
 
--- a record's number with the column moved to the other side
-pub listed : (total o n : ℕ) {m : ℕ} → m ≡ n → m < total → ltb o (total - m) ≡ ltb (o + n) total
-listed total o n {m} e h = by (decLt o (total - m))
+-- of a row of records that starts at record o the first (total - o) / 2 cells have a listed one
+pub listed : (total o x : ℕ) {n : ℕ} → n ≡ (total - o) / 2 → ltb x n ≡ ltb (recordOf o x) total
+listed total o x {n} e = by (decLt x n)
   where
-    by : Dec (o < total - m) → ltb o (total - m) ≡ ltb (o + n) total
-    by (yes l) = lt-ltb o (total - m) l ∙ sym (lt-ltb (o + n) total (omega arith))
-    by (no l) = le-ltb o (total - m) (omega arith) ∙ sym (le-ltb (o + n) total (omega arith))
+    by : Dec (x < n) → ltb x n ≡ ltb (recordOf o x) total
+    by (yes l) = lt-ltb x n l ∙ sym (lt-ltb (recordOf o x) total (omega arith))
+    by (no l) = le-ltb x n (omega arith) ∙ sym (le-ltb (recordOf o x) total (omega arith))
 
 -- a record that is listed lies in a buffer that holds all that are
 pub record-fits : (total len k : ℕ) → k < total → 12 * total ≤ len → 12 * k + 12 ≤ len
 record-fits total len k h l = omega arith
 
 -- a record whose read accepts is listed
-pub record-there : (recs : List ℕ) (total o : ℕ) {r : ℕ} (x : ℕ) → r ≡ recordRead recs total o x → r ≡ 0 → recordOf o x < total
+pub record-there : (recs : List ℕ) (n o : ℕ) {r : ℕ} (x : ℕ) → r ≡ recordRead recs n o x → r ≡ 0 → x < n
 unfolding recordRead
-record-there recs total o x e z = ltb-true _ _ (not-false _ (refused-not (not (ltb (recordOf o x) total)) 3 _ (sym e ∙ z) .0))
+record-there recs n o x e z = ltb-true _ _ (not-false _ (refused-not (not (ltb x n)) 3 _ (sym e ∙ z) .0))
+
+-- and lies in a buffer that holds all that are
+pub listed-fits : (total len o x : ℕ) {n : ℕ} → n ≡ (total - o) / 2 → 12 * total ≤ len → x < n → 12 * recordOf o x + 12 ≤ len
+listed-fits total len o x e l h = omega arith
 
 -- READS
 module _ (recs : List ℕ) (total o limit : ℕ) where
@@ -121,18 +125,18 @@ module _ (recs : List ℕ) (total o limit : ℕ) where
   two false true r = refl
   two false false r = refl
 
-  by-record : (x : ℕ) → blockRead recs total o limit x ≡ orElse (recordRead recs total o x) (pick (ltb limit (x + wideOn recs o x)) 9 0)
+  by-record : {n : ℕ} (x : ℕ) → n ≡ (total - o) / 2 → blockRead recs total o limit x ≡ orElse (recordRead recs n o x) (pick (ltb limit (x + wideOn recs o x)) 9 0)
   unfolding blockRead recordRead
-  by-record x = two (not (ltb (recordOf o x) total)) (not (wellBlock (blockOn recs o x))) _
+  by-record x l = rw (← listed total o x l) (two (not (ltb x _)) (not (wellBlock (blockOn recs o x))) _)
 
-  pub record-refuses : {r : ℕ} (x : ℕ) → r ≡ recordRead recs total o x → (r ≡ 0 → ⊥) → r ≡ blockRead recs total o limit x
-  record-refuses x e z = e ∙ sym (by-record x ∙ or-refuses (recordRead recs total o x) _ (λ y. z (e ∙ y)))
+  pub record-refuses : {r n : ℕ} (x : ℕ) → n ≡ (total - o) / 2 → r ≡ recordRead recs n o x → (r ≡ 0 → ⊥) → r ≡ blockRead recs total o limit x
+  record-refuses {n = n} x l e z = e ∙ sym (by-record x l ∙ or-refuses (recordRead recs n o x) _ (λ y. z (e ∙ y)))
 
-  pub past-limit : {r m : ℕ} (x : ℕ) → r ≡ recordRead recs total o x → r ≡ 0 → m ≡ wideOn recs o x → limit < x + m → 9 ≡ blockRead recs total o limit x
-  past-limit x e z k h = sym (by-record x ∙ or-accepts (recordRead recs total o x) _ (sym e ∙ z) ∙ pick-true 0 (lt-ltb limit _ (rw (← k) h)))
+  pub past-limit : {r m n : ℕ} (x : ℕ) → n ≡ (total - o) / 2 → r ≡ recordRead recs n o x → r ≡ 0 → m ≡ wideOn recs o x → limit < x + m → 9 ≡ blockRead recs total o limit x
+  past-limit {n = n} x l e z k h = sym (by-record x l ∙ or-accepts (recordRead recs n o x) _ (sym e ∙ z) ∙ pick-true 0 (lt-ltb limit _ (rw (← k) h)))
 
-  pub up-to-limit : {r m : ℕ} (x : ℕ) → r ≡ recordRead recs total o x → r ≡ 0 → m ≡ wideOn recs o x → x + m ≤ limit → 0 ≡ blockRead recs total o limit x
-  up-to-limit x e z k h = sym (by-record x ∙ or-accepts (recordRead recs total o x) _ (sym e ∙ z) ∙ pick-false 9 (le-ltb limit _ (rw (← k) h)))
+  pub up-to-limit : {r m n : ℕ} (x : ℕ) → n ≡ (total - o) / 2 → r ≡ recordRead recs n o x → r ≡ 0 → m ≡ wideOn recs o x → x + m ≤ limit → 0 ≡ blockRead recs total o limit x
+  up-to-limit {n = n} x l e z k h = sym (by-record x l ∙ or-accepts (recordRead recs n o x) _ (sym e ∙ z) ∙ pick-false 9 (le-ltb limit _ (rw (← k) h)))
 
 module _ (recs : List ℕ) (total o end limit : ℕ) where
   pub none-left : (n x : ℕ) → end ≤ x → 0 ≡ walkRead recs total o end limit n x

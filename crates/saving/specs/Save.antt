@@ -80,9 +80,9 @@ blockOn recs o x = blockAt recs (recordOf o x)
 abbrev pub wideOn : List ℕ → ℕ → ℕ → ℕ
 wideOn recs o x = cellsWide (blockOn recs o x .bs)
 
--- the record alone: past the listed ones 4, not well formed 8
-unfoldable pub recordRead : List ℕ → (total o x : ℕ) → ℕ
-recordRead recs total o x = pick (not (ltb (recordOf o x) total)) 4 (pick (not (wellBlock (blockOn recs o x))) 8 0)
+-- the record alone, where the first n cells have a listed one: past those 4, not well formed 8
+unfoldable pub recordRead : List ℕ → (n o x : ℕ) → ℕ
+recordRead recs n o x = pick (not (ltb x n)) 4 (pick (not (wellBlock (blockOn recs o x))) 8 0)
 
 -- one read: past the listed records 4, not well formed 8, past the column limit 9
 unfoldable pub blockRead : List ℕ → (total o limit x : ℕ) → ℕ

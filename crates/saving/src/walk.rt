@@ -13,8 +13,7 @@ use rows::table::Place;
 use rows::table::RowEntry;
 use rows::table::place_at;
 ghost use mathlib.Core.Path.{_≡_};
-ghost use Prim.Native.Nat.{_+_, _-_, _*_, _≤_, _<_};
-ghost use lib.Dec.{ltb};
+ghost use Prim.Native.Nat.{_+_, _-_, _*_, _/_, _≤_, _<_};
 ghost use lib.ListN.{length};
 ghost use Rattle.ground.specs.Put.{put, copies};
 ghost use Rattle.ground.specs.Script.{run};
@@ -22,16 +21,14 @@ ghost use Rattle.cells.specs.Cell.{cellBytes};
 ghost use Rattle.saving.specs.Rooms.{RowRoom};
 ghost use Rattle.saving.specs.Save.{recordOf, cellsWide, blockOn, wideOn, recordRead, walkRead, walkBytes, entryOf, placeRead, stripRead, rowRead, placePatch, rowPatch};
 
-// Whether the record that cell x is saved from is one of the listed.
-fn is_listed(total: usize, o: usize, x: usize) -> bool
-    requires { ⌜ x ≤ 65536 ⌝ }
-    ensures { λ r. ⌜ r ≡ ltb (recordOf o x) total ⌝ }
+// How many cells have a listed record, in a row of records that starts at number o.
+fn listed_cells(total: usize, o: usize) -> usize
+    ensures { λ r. ⌜ r ≡ (total - o) / 2 ⌝ }
 {
-    let at = Pos8(x).odd().0;
-    if total <= at {
-        return false;
+    if o < total {
+        return (total - o) / 2;
     }
-    o < total - at
+    0
 }
 
 // The record that cell x is saved from, in a row of records that starts at number o.
@@ -42,12 +39,13 @@ fn block_of(recs: &[u8], o: usize, x: usize) -> Block
     Block::read(recs, o + Pos8(x).odd().0)
 }
 
-// Whether the record that cell x is saved from can be read, and is well formed.
-fn check_record(recs: &[u8], total: usize, o: usize, x: usize) -> u8
-    requires { ⌜ (x ≤ 65536) × (12 * total ≤ length (now recs)) ⌝ }
-    ensures { λ r. ⌜ r ≡ recordRead (now (recs .entry)) total o x ⌝ }
+// Whether the record that cell x is saved from is one of the listed, and well formed. The first n
+// cells have a listed record.
+fn check_record(recs: &[u8], n: usize, o: usize, x: usize) -> u8
+    requires { ⌜ (x ≤ 65536) × (x < n → 12 * recordOf o x + 12 ≤ length (now recs)) ⌝ }
+    ensures { λ r. ⌜ r ≡ recordRead (now (recs .entry)) n o x ⌝ }
 {
-    if !is_listed(total, o, x) {
+    if n <= x {
         return 4;
     }
     let b = block_of(recs, o, x);
@@ -67,10 +65,11 @@ fn check_walk(recs: &[u8], total: usize, o: usize, w: Strip) -> u8
     requires { ⌜ (w .end ≤ 65536) × (12 * total ≤ length (now recs)) ⌝ }
     ensures { λ r. ⌜ r ≡ walkRead (now (recs .entry)) total o (w .end) (w .limit) (w .end - w .left) (w .left) ⌝ }
 {
+    let n = listed_cells(total, o);
     let mut x = w.left;
     let mut last = narrowest();
     while x < w.end {
-        let answer = check_record(recs, total, o, x);
+        let answer = check_record(recs, n, o, x);
         if answer != 0 {
             return answer;
         }
