@@ -84,7 +84,7 @@ chosen-by refs b e e' =
     (ap (λ (h : RefHint). usableBy h (firstOfTwo b)) e ∙ usable-by refs (firstOfTwo b))
 
 -- of a row of records that starts at record o the first (total - o) / 2 cells have a listed one
-pub listed : (total o x : ℕ) {n : ℕ} → n ≡ (total - o) / 2 → ltb x n ≡ ltb (recordOf o x) total
+listed : (total o x : ℕ) {n : ℕ} → n ≡ (total - o) / 2 → ltb x n ≡ ltb (recordOf o x) total
 listed total o x {n} e = by (decLt x n)
   where
     by : Dec (x < n) → ltb x n ≡ ltb (recordOf o x) total

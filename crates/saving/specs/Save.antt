@@ -111,7 +111,7 @@ unfoldable pub placeRead : List ℕ → ℕ → Strip → Place → ℕ
 placeRead recs total w Absent = 6
 placeRead recs total w (At o) = walkRead recs total o (w .end) (w .limit) (w .end - w .left) (w .left)
 
--- where no block is walked
+-- the same for a strip: where no block is walked, nothing is read
 unfoldable pub stripRead : List ℕ → ℕ → Strip → Place → ℕ
 stripRead recs total w p = pick (ltb (w .left) (w .end)) (placeRead recs total w p) 0
 

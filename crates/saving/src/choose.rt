@@ -80,8 +80,8 @@ fn cells_wide(code: u8) -> usize
     }
 }
 
-// A size code, and the width of its blocks in cells. Two fields of one size: a struct with a gap in it
-// would be copied through memory for each block.
+// A size code, and the width of its blocks in cells. The code is as wide as the other field: a
+// struct with a gap in it would go through memory for each block.
 pub struct Width {
     pub code: usize,
     pub cells: usize,
