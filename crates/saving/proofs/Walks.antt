@@ -37,7 +37,8 @@ use Rattle.rows.specs.declared.table.RowEntry.{RowEntry}
 use Rattle.rows.specs.Table.{none, placeAt}
 use Rattle.rows.proofs.Splats.{entry-at}
 use Rattle.saving.specs.declared.area.Strip.{Strip}
-use Rattle.saving.specs.Save.{usable, usableBy, hintPlace, noCell, firstOfTwo, secondOfTwo, chosen, chosenBy, halfWidth, cellsWide, recordOf, blockOn, wideOn, recordRead, blockRead, walkRead, walkBytes, entryOf, placeRead, stripRead, rowRead, placePatch, rowPatch}
+use Rattle.saving.specs.Save.{usable, noCell, firstOfTwo, secondOfTwo, chosen, halfWidth, cellsWide, recordOf, blockOn, wideOn, blockRead, walkRead, walkBytes, entryOf, placeRead, rowRead, placePatch, rowPatch}
+use Rattle.saving.specs.Walk.{usableBy, hintPlace, chosenBy, recordRead, stripRead}
 
 -- a block covers 1 to 16 cells
 pub record Wide (n : ℕ) : Type 0 where

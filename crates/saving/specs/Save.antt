@@ -3,7 +3,7 @@ use Prim.Native.Nat.{ℕ, zero, suc, _+_, _-_, _*_, _/_, _%_}
 use mathlib.Core.Bool.{Bool, _&&_, not}
 use mathlib.Core.List.{List, [], _∷_, _++_}
 use lib.Dec.{ltb, eqb}
-use lib.IntN.{ℤ, pos, natAbs}
+use lib.IntN.{pos, natAbs}
 use lib.ListN.{length, getD}
 use Rattle.ground.specs.Pick.{pick}
 use Rattle.ground.specs.Answer.{orElse, accepted}
@@ -37,13 +37,6 @@ unfoldable pub usable : List RefHint → Cell → Bool
 usable refs c =
     fromTo (pos 1) (pos 7) (c .reference .0) && not (eqb (getD refs (natAbs (c .reference .0) - 1) noHint .«mfmv_sign») 0) && within 4095 (c .mv)
 
--- The same by the hint of the cell's reference alone; and where that stands, any place for a reference that has none.
-unfoldable pub usableBy : RefHint → Cell → Bool
-usableBy h c = fromTo (pos 1) (pos 7) (c .reference .0) && not (eqb (h .«mfmv_sign») 0) && within 4095 (c .mv)
-
-unfoldable pub hintPlace : ℤ → ℕ
-hintPlace z = pick (fromTo (pos 1) (pos 7) z) (natAbs z - 1) 0
-
 -- nothing is kept: all five bytes are zero
 abbrev pub noCell : Cell
 noCell = record { mv = record { y = pos 0; x = pos 0 }; reference = record { 0 = pos 0 } }
@@ -57,10 +50,6 @@ firstOfTwo b = record { mv = b .mv .first; reference = b .refs .first }
 
 unfoldable pub chosen : List RefHint → Block → Cell
 chosen refs b = pick (usable refs (secondOfTwo b)) (secondOfTwo b) (pick (usable refs (firstOfTwo b)) (firstOfTwo b) noCell)
-
--- the same by the hints of the first list's reference and of the second's
-unfoldable pub chosenBy : RefHint → RefHint → Block → Cell
-chosenBy h h' b = pick (usableBy h' (secondOfTwo b)) (secondOfTwo b) (pick (usableBy h (firstOfTwo b)) (firstOfTwo b) noCell)
 
 -- a block's width in cells, halved upwards
 unfoldable pub halfWidth : Sized → ℕ
@@ -79,10 +68,6 @@ blockOn recs o x = blockAt recs (recordOf o x)
 
 abbrev pub wideOn : List ℕ → ℕ → ℕ → ℕ
 wideOn recs o x = cellsWide (blockOn recs o x .bs)
-
--- the record alone, where the first n cells have a listed one: past those 4, not well formed 8
-unfoldable pub recordRead : List ℕ → (n o x : ℕ) → ℕ
-recordRead recs n o x = pick (not (ltb x n)) 4 (pick (not (wellBlock (blockOn recs o x))) 8 0)
 
 -- one read: past the listed records 4, not well formed 8, past the column limit 9
 unfoldable pub blockRead : List ℕ → (total o limit x : ℕ) → ℕ
@@ -110,10 +95,6 @@ entryOf y = 6 + 2 * (y % 16)
 unfoldable pub placeRead : List ℕ → ℕ → Strip → Place → ℕ
 placeRead recs total w Absent = 6
 placeRead recs total w (At o) = walkRead recs total o (w .end) (w .limit) (w .end - w .left) (w .left)
-
--- the same for a strip: where no block is walked, nothing is read
-unfoldable pub stripRead : List ℕ → ℕ → Strip → Place → ℕ
-stripRead recs total w p = pick (ltb (w .left) (w .end)) (placeRead recs total w p) 0
 
 unfoldable pub rowRead : List ℕ → ℕ → List RowEntry → Strip → ℕ → ℕ
 rowRead recs total rows w y = pick (ltb (w .left) (w .end)) (placeRead recs total w (placeAt rows (entryOf y))) 0

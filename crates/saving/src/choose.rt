@@ -12,7 +12,8 @@ ghost use mathlib.Core.Bool.{true};
 ghost use Prim.Native.Nat.{_-_, _≤_};
 ghost use lib.IntN.{pos, natAbs};
 ghost use Rattle.ground.specs.Sign.{fromTo};
-ghost use Rattle.saving.specs.Save.{hintPlace, usableBy, chosenBy, cellsWide};
+ghost use Rattle.saving.specs.Save.{cellsWide};
+ghost use Rattle.saving.specs.Walk.{hintPlace, usableBy, chosenBy};
 
 // The place of a reference, 1..7, in a table of seven.
 pub fn place_of(r: Ref) -> usize

@@ -19,7 +19,8 @@ ghost use Rattle.ground.specs.Put.{put, copies};
 ghost use Rattle.ground.specs.Script.{run};
 ghost use Rattle.cells.specs.Cell.{cellBytes};
 ghost use Rattle.saving.specs.Rooms.{RowRoom};
-ghost use Rattle.saving.specs.Save.{recordOf, cellsWide, blockOn, wideOn, recordRead, walkRead, walkBytes, entryOf, placeRead, stripRead, rowRead, placePatch, rowPatch};
+ghost use Rattle.saving.specs.Save.{recordOf, cellsWide, blockOn, wideOn, walkRead, walkBytes, entryOf, placeRead, rowRead, placePatch, rowPatch};
+ghost use Rattle.saving.specs.Walk.{recordRead, stripRead};
 
 // How many cells have a listed record, in a row of records that starts at number o.
 fn listed_cells(total: usize, o: usize) -> usize

@@ -1,6 +1,6 @@
 -- `saving::choose::choose` meets its contract.
 -- Assumes nothing.
-use Rattle.saving.specs.Save.{chosenBy}
+use Rattle.saving.specs.Walk.{chosenBy}
 use borrow.Author.Needs.{needs}
 use Rattle.saving.proofs.choose.choose.Statement.{statement}
 use Rattle.saving.proofs.choose.choose.Tie as tie

@@ -3,7 +3,7 @@
 use mathlib.Core.Path.{sym, _∙_}
 use lib.Dec.{lit≤}
 use Rattle.ground.proofs.Picks.{pick-true, pick-false}
-use Rattle.saving.specs.Save.{hintPlace}
+use Rattle.saving.specs.Walk.{hintPlace}
 use borrow.Author.Needs.{needs}
 use Rattle.saving.proofs.choose.hint_place.Statement.{statement}
 use Rattle.saving.proofs.choose.hint_place.Tie as tie

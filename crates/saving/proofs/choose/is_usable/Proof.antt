@@ -1,7 +1,7 @@
 -- `saving::choose::is_usable` meets its contract.
 -- Assumes nothing.
 use borrow.Author.Tests.{eq-eqb, ne-eqb, not-true, not-false}
-use Rattle.saving.specs.Save.{usableBy}
+use Rattle.saving.specs.Walk.{usableBy}
 use borrow.Author.Needs.{needs}
 use Rattle.saving.proofs.choose.is_usable.Statement.{statement}
 use Rattle.saving.proofs.choose.is_usable.Tie as tie

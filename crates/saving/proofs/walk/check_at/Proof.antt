@@ -1,7 +1,7 @@
 -- `saving::walk::check_at` meets its contract.
 -- Assumes nothing.
 use borrow.Author.Tests.{le-ltb, lt-ltb}
-use Rattle.saving.specs.Save.{stripRead}
+use Rattle.saving.specs.Walk.{stripRead}
 use borrow.Author.Needs.{needs}
 use Rattle.saving.proofs.walk.check_at.Statement.{statement}
 use Rattle.saving.proofs.walk.check_at.Tie as tie

@@ -1,7 +1,7 @@
 -- `saving::walk::check_record` meets its contract.
 -- Assumes nothing.
 use borrow.Author.Tests.{le-ltb, lt-ltb}
-use Rattle.saving.specs.Save.{recordRead}
+use Rattle.saving.specs.Walk.{recordRead}
 use borrow.Author.Needs.{needs}
 use Rattle.saving.proofs.walk.check_record.Statement.{statement}
 use Rattle.saving.proofs.walk.check_record.Tie as tie
