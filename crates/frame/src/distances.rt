@@ -8,7 +8,8 @@ use vector::hint::get_poc_diff;
 ghost use mathlib.Core.Path.{_≡_};
 ghost use mathlib.Core.Bool.{true};
 ghost use Prim.Native.Nat.{_<_, _^_, min};
-ghost use lib.IntN.{pos, negℤ};
+ghost use lib.Dec.{leb};
+ghost use lib.IntN.{pos, negℤ, natAbs};
 ghost use lib.Signed.{ltZ};
 ghost use Rattle.ground.specs.Sign.{clip3};
 ghost use Rattle.frame.specs.Description.{hinted, hintAt};
@@ -54,6 +55,14 @@ fn clipped(d: i16) -> i16
     with_sign(negative(d), to_31(magnitude(d)))
 }
 
+// At most 31 either way. Two comparisons with the number itself are one test of the machine's, and
+// its magnitude would be worked out first.
+pub(crate) fn near(z: i16) -> bool
+    ensures { λ r. ⌜ r ≡ leb (natAbs z) 31 ⌝ }
+{
+    if -31 <= z { z <= 31 } else { false }
+}
+
 fn ref_hint(d: Description, i: usize) -> RefHint
     requires { ⌜ (hinted d ≡ true) × (i < 7) ⌝ }
     ensures { λ r. ⌜ r ≡ refHintOf d (hintAt d i) ⌝ }
@@ -85,7 +94,7 @@ pub(crate) fn ref_hints(d: Description) -> [RefHint; 7]
 
 impl RefHint {
     // Whether setup can give these values.
-    pub(crate) fn well_formed(self) -> bool
+    pub fn well_formed(self) -> bool
         ensures { λ r. ⌜ r ≡ wellHint self ⌝ }
     {
         if 1 < self.sign_bias {
@@ -94,6 +103,6 @@ impl RefHint {
         if 1 < self.mfmv_sign {
             return false;
         }
-        magnitude(self.pocdiff) <= 31
+        near(self.pocdiff)
     }
 }

@@ -1,9 +1,9 @@
 // A reference that is projected: where it stands to the current frame, and its own references to it.
 use crate::description::Description;
-use crate::description::all_under;
 use crate::description::held;
 use crate::description::hint;
 use crate::distances::from_current;
+use crate::distances::near;
 use crate::select::ALTREF;
 use crate::select::BWDREF;
 use crate::select::LAST2;
@@ -17,7 +17,7 @@ ghost use Prim.Native.Nat.{_<_};
 ghost use lib.Dec.{ltb};
 ghost use lib.ListN.{getD};
 ghost use Rattle.ground.specs.Pick.{pick};
-ghost use Rattle.frame.specs.Description.{hinted};
+ghost use Rattle.frame.specs.Description.{under, hinted};
 ghost use Rattle.frame.specs.Distances.{seven};
 ghost use Rattle.frame.specs.Mfmv.{far, towards, offset, refToRef, mfmvOf, idle, selectable, wellCur, wellMfmv};
 
@@ -141,7 +141,7 @@ pub(crate) fn slot(d: Description, s: Selection, i: usize) -> Mfmv
 
 impl Mfmv {
     // Whether setup can give these values.
-    pub(crate) fn well_formed(self) -> bool
+    pub fn well_formed(self) -> bool
         ensures { λ r. ⌜ r ≡ wellMfmv self ⌝ }
     {
         if !is_selectable(self.reference) {
@@ -152,7 +152,7 @@ impl Mfmv {
             return false;
         }
         let refs = self.ref2ref;
-        all_under(&refs, 32)
+        all_short(refs)
     }
 }
 
@@ -170,6 +170,13 @@ fn well_cur(c: Ref2Cur) -> bool
 {
     match c {
         Ref2Cur::Skipped => true,
-        Ref2Cur::At(z) => magnitude(z) <= 31,
+        Ref2Cur::At(z) => near(z),
     }
+}
+
+// The seven together have a bit above the low five where one of them has: one test for all.
+fn all_short(o: [u8; 7]) -> bool
+    ensures { λ r. ⌜ r ≡ under o 32 ⌝ }
+{
+    (o[0] | o[1] | o[2] | o[3] | o[4] | o[5] | o[6]) < 32
 }

@@ -114,7 +114,7 @@ fn is_superblock(sbsz: usize) -> bool
 
 impl Sizes {
     // Whether the sizes are those that setup would give.
-    pub(crate) fn well_formed(self) -> bool
+    pub fn well_formed(self) -> bool
         ensures { λ r. ⌜ r ≡ wellSizes self ⌝ }
     {
         if !limited(

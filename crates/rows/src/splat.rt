@@ -9,16 +9,16 @@ use frame::record::Frame;
 use frame::sizes::Sizes;
 use frame::sizes::one_to;
 ghost use mathlib.Core.Path.{_≡_};
-ghost use mathlib.Core.Bool.{true};
+ghost use mathlib.Core.Bool.{true, _&&_};
 ghost use Prim.Native.Nat.{_+_, _*_, _/_, _^_, _≤_, _<_};
 ghost use lib.Dec.{leb};
 ghost use lib.ListN.{length};
 ghost use Rattle.ground.specs.Pick.{pick};
 ghost use Rattle.ground.specs.Put.{put, copies};
 ghost use Rattle.ground.specs.Script.{run};
-ghost use Rattle.cells.specs.Block.{blockBytes};
+ghost use Rattle.cells.specs.Block.{blockBytes, wellBlock};
 ghost use Rattle.frame.specs.Sizes.{wellSizes};
-ghost use Rattle.rows.specs.Splat.{holds, spans, placeable, firstEntry, rowRead, rowsRead, splatAnswer, rowPatch, rowPatches, splatScript};
+ghost use Rattle.rows.specs.Splat.{holds, spans, firstEntry, rowRead, rowsRead, splatAnswer, rowPatch, rowPatches, splatScript};
 
 // A record and the place that it is laid over: y and x of the block's first record, its width and
 // height.
@@ -61,14 +61,15 @@ fn has_spans(s: Sizes, b: Splat) -> bool
     b.x.0 <= row - w
 }
 
-fn is_placeable(s: Sizes, t: Tile, b: Splat) -> bool
+// The tile's columns and rows are all that is asked of it, so that its table isn't handed over.
+pub fn is_placeable(s: Sizes, col: TileRange, row: TileRange, b: Splat) -> bool
     requires { ⌜ wellSizes s ≡ true ⌝ }
-    ensures { λ r. ⌜ r ≡ placeable s t b ⌝ }
+    ensures { λ r. ⌜ r ≡ (holds (s .iw4 .0) col (b .x .0) && holds (s .ih4 .0) row (b .y .0) && spans s b && wellBlock (b .block)) ⌝ }
 {
-    if !is_in(s.iw4, t.col, b.x) {
+    if !is_in(s.iw4, col, b.x) {
         return false;
     }
-    if !is_in(s.ih4, t.row, b.y) {
+    if !is_in(s.ih4, row, b.y) {
         return false;
     }
     if !has_spans(s, b) {
@@ -78,7 +79,7 @@ fn is_placeable(s: Sizes, t: Tile, b: Splat) -> bool
     block.well_formed()
 }
 
-fn first_entry(y: usize) -> usize
+pub fn first_entry(y: usize) -> usize
     ensures { λ r. ⌜ r ≡ firstEntry y ⌝ }
 {
     y % 32 + 5
@@ -92,7 +93,7 @@ fn read_at(o: usize, total: usize, reach: usize) -> u8
     if o <= total - reach { 0 } else { 4 }
 }
 
-fn read_row(p: Place, total: usize, reach: usize) -> u8
+pub fn read_row(p: Place, total: usize, reach: usize) -> u8
     requires { ⌜ reach ≤ total ⌝ }
     ensures { λ r. ⌜ r ≡ rowRead total reach p ⌝ }
 {
@@ -134,7 +135,7 @@ fn admit(f: Frame, t: Tile, b: Splat, len: usize) -> u8
         return 1;
     }
     let s = f.sizes;
-    if !is_placeable(s, t, b) {
+    if !is_placeable(s, t.col, t.row, b) {
         return 10;
     }
     let total = s.records();
@@ -159,7 +160,7 @@ fn write_copies(records: &mut [u8], block: Block, at: usize, w: usize)
     }
 }
 
-fn write_row(records: &mut [u8], block: Block, x: usize, w: usize, p: Place)
+pub fn write_row(records: &mut [u8], block: Block, x: usize, w: usize, p: Place)
     requires { ⌜ rowRead (length (now records) / 12) (x + w) p ≡ 0 ⌝ }
     ensures { λ _. ⌜ now (records .exit) ≡ run (rowPatch block x w p) (now (records .entry)) ⌝ }
 {

@@ -16,8 +16,8 @@ enum-told c = search needs
 enum-known-c : tie.Need-enum-known-c
 enum-known-c c = search needs
 
-magnitude-requires : tie.Need-magnitude-requires
-magnitude-requires c κs = search needs
+near-requires : tie.Need-near-requires
+near-requires c κs = search needs
 
 returns : tie.Need-returns
 unfolding wellCur
@@ -25,7 +25,7 @@ returns c = rw (c .enum-told .given .1)
 
 returns-2 : tie.Need-returns-2
 unfolding wellCur
-returns-2 c = rw (c .before .before .c .given .1, c .magnitude .ensures) (ap (λ z. leb (natAbs z) 31) (same w16 (c .before .before .c .given .0 .0) (search needs)))
+returns-2 c = rw (c .before .before .c .given .1, c .near .ensures) (ap (λ z. leb (natAbs z) 31) (same w16 (c .before .before .c .given .0 .0) (search needs)))
 
 pub well-cur-spec : {M : Type 1} → statement M
-well-cur-spec = tie.close (tie.spec enum-told enum-known-c magnitude-requires returns returns-2)
+well-cur-spec = tie.close (tie.spec enum-told enum-known-c near-requires returns returns-2)

@@ -20,15 +20,12 @@ returns-2 : tie.Need-returns-2
 unfolding wellMfmv
 returns-2 c = rw (← c .before .before .before .is-selectable .ensures, not-false (c .before .before .before .is-selectable .result) (c .before .before .if1 .left), ← c .before .well-cur .ensures, not-true (c .before .well-cur .result) (c .if2 .taken))
 
-slice-aggregate-all-under : tie.Need-slice-aggregate-all-under
-slice-aggregate-all-under c = search needs
-
-all-under-requires : tie.Need-all-under-requires
-all-under-requires c κs = search needs
+all-short-requires : tie.Need-all-short-requires
+all-short-requires c κs = search needs
 
 returns-3 : tie.Need-returns-3
 unfolding wellMfmv
-returns-3 c = rw (← c .before .before .before .before .before .before .is-selectable .ensures, not-false (c .before .before .before .before .before .before .is-selectable .result) (c .before .before .before .before .before .if1 .left), ← c .before .before .before .before .well-cur .ensures, not-false (c .before .before .before .before .well-cur .result) (c .before .before .before .if2 .left), ← c .all-under .ensures)
+returns-3 c = rw (← c .before .before .before .before .before .is-selectable .ensures, not-false (c .before .before .before .before .before .is-selectable .result) (c .before .before .before .before .if1 .left), ← c .before .before .before .well-cur .ensures, not-false (c .before .before .before .well-cur .result) (c .before .before .if2 .left), ← c .all-short .ensures)
 
 pub well-formed-spec : {M : Type 1} → statement M
 well-formed-spec =
@@ -38,6 +35,5 @@ well-formed-spec =
     returns
     well-cur-requires
     returns-2
-    slice-aggregate-all-under
-    all-under-requires
+    all-short-requires
     returns-3)
