@@ -1,25 +1,14 @@
--- The table of a tile, read entry by entry and laid number by number.
+-- The table of a tile, laid number by number.
 -- Assumes nothing.
-use mathlib.Core.Path.{_≡_, refl, sym}
+use mathlib.Core.Path.{_≡_, sym}
 use mathlib.Core.List.{List}
 use Prim.Native.Nat.{ℕ, zero, suc, _+_, _-_, _*_, _≤_, _<_}
 use native.Mathlib.Numerals.{add-one}
 use native.Mathlib.Omega.{arith}
-use lib.ListN.{set, replicate}
 use Rattle.ground.specs.Put.{put}
 use Rattle.ground.specs.Little.{fourBytes, fours}
 use Rattle.ground.proofs.Puts.{put-append}
-use Rattle.rows.specs.declared.table.RowEntry.{RowEntry}
-use Rattle.rows.specs.Table.{none, tab}
-
--- the first n entries read, the others absent yet
-abbrev pub firstOf : (ℕ → RowEntry) → ℕ → List RowEntry
-firstOf f zero = replicate 37 none
-firstOf f (suc n) = set (firstOf f n) n (f n)
-
-pub all-read : (f : ℕ → RowEntry) → firstOf f 37 ≡ tab f 0 37
-unfolding tab
-all-read f = refl
+use Rattle.rows.specs.Table.{tab}
 
 -- a loop that lays the numbers from entry e on: one more, and none left
 one-laid : (s t : List ℕ) (f : ℕ → ℕ) (e n : ℕ) → t ≡ put s (4 * e) (fourBytes (f e))

@@ -2,6 +2,7 @@
 pub mod Pieces
 pub mod Lent
 pub mod Entries
+pub mod Read
 pub mod Places
 pub mod KeptFrame
 pub mod KeptTile

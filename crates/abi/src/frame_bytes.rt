@@ -15,9 +15,13 @@ use ground::write::put_sizes;
 ghost use mathlib.Core.Path.{_≡_};
 ghost use mathlib.Core.List.{_∷_, []};
 ghost use Prim.Native.Nat.{_+_, _≤_, _%_};
-ghost use lib.ListN.{length};
+ghost use lib.ListN.{length, getD};
 ghost use Rattle.ground.specs.Put.{put};
+ghost use Rattle.ground.specs.Below.{allBelow};
 ghost use Rattle.ground.specs.Little.{fours};
+ghost use Rattle.frame.specs.Distances.{wellHint};
+ghost use Rattle.frame.specs.Mfmv.{noMfmv, wellMfmv};
+ghost use Rattle.frame.specs.Record.{noHint, wellFrame};
 ghost use Rattle.abi.specs.FrameBytes.{sizesAt, refHintAt, refHintsAt, curOf, offsetsAt, mfmvAt, frameAt, hintBytes, hintsBytes, curNumber, mfmvBytes, mfmvsBytes, sizeNumbers, frameBytes};
 
 pub(crate) const FRAME: usize = 109;
@@ -25,7 +29,7 @@ pub(crate) const FRAME: usize = 109;
 // Stands for a reference that is skipped: no distance is that far.
 const SKIPPED: i16 = -32768;
 
-fn sizes_at(s: &[u8]) -> Sizes
+pub(crate) fn sizes_at(s: &[u8]) -> Sizes
     requires { ⌜ 109 ≤ length (now s) ⌝ }
     ensures { λ r. ⌜ r ≡ sizesAt (now (s .entry)) ⌝ }
 {
@@ -131,6 +135,58 @@ pub(crate) fn frame_at(s: &[u8]) -> Frame
         n_mfmvs: wide(s[50]),
         mfmvs,
     }
+}
+
+fn well_hints(s: &[u8]) -> bool
+    requires { ⌜ 109 ≤ length (now s) ⌝ }
+    ensures { λ r. ⌜ r ≡ allBelow 7 (λ i. wellHint (getD (refHintsAt (now (s .entry))) i noHint)) ⌝ }
+{
+    let mut i: usize = 0;
+    while i < 7 {
+        let h = hint_at(s, 51 + 4 * i);
+        if !h.well_formed() {
+            return false;
+        }
+        i += 1;
+    }
+    true
+}
+
+fn well_mfmvs(s: &[u8]) -> bool
+    requires { ⌜ 109 ≤ length (now s) ⌝ }
+    ensures { λ r. ⌜ r ≡ allBelow 3 (λ i. wellMfmv (getD (frameAt (now (s .entry)) .mfmvs) i noMfmv)) ⌝ }
+{
+    let mut i: usize = 0;
+    while i < 3 {
+        let m = mfmv_at(s, 79 + 10 * i);
+        if !m.well_formed() {
+            return false;
+        }
+        i += 1;
+    }
+    true
+}
+
+// Whether the bytes are a record that setup can give: its check on each part where it stands, for
+// the calls that are made for each block or row and want no more of the record than its sizes.
+pub(crate) fn well_frame(s: &[u8]) -> bool
+    requires { ⌜ 109 ≤ length (now s) ⌝ }
+    ensures { λ r. ⌜ r ≡ wellFrame (frameAt (now (s .entry))) ⌝ }
+{
+    let sizes = sizes_at(s);
+    if !sizes.well_formed() {
+        return false;
+    }
+    if 1 < s[48] {
+        return false;
+    }
+    if 1 < s[49] {
+        return false;
+    }
+    if 3 < s[50] {
+        return false;
+    }
+    if well_hints(s) { well_mfmvs(s) } else { false }
 }
 
 fn put_hint(s: &mut [u8], at: usize, h: RefHint)

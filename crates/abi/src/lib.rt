@@ -5,5 +5,6 @@ mod frame_bytes;
 pub mod frames;
 pub mod leaves;
 pub mod motions;
+mod splats;
 mod tile_bytes;
 pub mod tiles;

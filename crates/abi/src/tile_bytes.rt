@@ -13,8 +13,8 @@ ghost use Prim.Native.Nat.{_+_, _*_, _≤_, min};
 ghost use lib.ListN.{length};
 ghost use Rattle.ground.specs.Put.{put};
 ghost use Rattle.ground.specs.Little.{fours};
-ghost use Rattle.rows.specs.Table.{tab};
-ghost use Rattle.abi.specs.TileBytes.{absentMark, placeOf, placeNumber, entryIn, rangeAt, tileAt, entryNumber, boundNumbers, tileBytes};
+ghost use Rattle.rows.specs.Table.{tab, placeAt};
+ghost use Rattle.abi.specs.TileBytes.{absentMark, placeOf, placeNumber, rangeAt, tileAt, entryNumber, boundNumbers, tileBytes};
 
 pub(crate) const TILE: usize = 168;
 
@@ -30,25 +30,15 @@ fn place_of(n: usize) -> Place
     Place::At(n)
 }
 
-fn entry_in(s: &[u8], e: usize) -> RowEntry
-    requires { ⌜ 4 * e + 4 ≤ length (now s) ⌝ }
-    ensures { λ r. ⌜ r ≡ entryIn (now (s .entry)) e ⌝ }
-{
-    let at = place_of(size_at(s, 4 * e));
-    RowEntry { at }
-}
-
-fn table_at(s: &[u8]) -> [RowEntry; 37]
+// An entry's place; past the table there is none.
+pub(crate) fn place_in(s: &[u8], e: usize) -> Place
     requires { ⌜ 168 ≤ length (now s) ⌝ }
-    ensures { λ r. ⌜ r ≡ tab (entryIn (now (s .entry))) 0 37 ⌝ }
+    ensures { λ r. ⌜ r ≡ placeAt (tileAt (now (s .entry)) .rows) e ⌝ }
 {
-    let mut rows = [RowEntry { at: Place::Absent }; 37];
-    let mut e: usize = 0;
-    while e < 37 {
-        rows[e] = entry_in(s, e);
-        e += 1;
+    if e < 37 {
+        return place_of(size_at(s, 4 * e));
     }
-    rows
+    Place::Absent
 }
 
 fn range_at(s: &[u8], start: usize, end: usize) -> TileRange
@@ -61,18 +51,18 @@ fn range_at(s: &[u8], start: usize, end: usize) -> TileRange
     }
 }
 
-// The tile that the bytes hold, whatever they are: a call that is handed it looks at what it uses.
-pub(crate) fn tile_at(s: &[u8]) -> Tile
+pub(crate) fn columns_at(s: &[u8]) -> TileRange
     requires { ⌜ 168 ≤ length (now s) ⌝ }
-    ensures { λ r. ⌜ r ≡ tileAt (now (s .entry)) ⌝ }
+    ensures { λ r. ⌜ r ≡ tileAt (now (s .entry)) .col ⌝ }
 {
-    let rows = table_at(s);
-    Tile {
-        rows,
-        proj: size_at(s, 148),
-        col: range_at(s, 152, 156),
-        row: range_at(s, 160, 164),
-    }
+    range_at(s, 152, 156)
+}
+
+pub(crate) fn rows_at(s: &[u8]) -> TileRange
+    requires { ⌜ 168 ≤ length (now s) ⌝ }
+    ensures { λ r. ⌜ r ≡ tileAt (now (s .entry)) .row ⌝ }
+{
+    range_at(s, 160, 164)
 }
 
 fn place_number(p: Place) -> usize

@@ -1,15 +1,14 @@
 // Superblock-row setup and splat, on lent bytes.
 use crate::frame_bytes::FRAME;
 use crate::frame_bytes::frame_at;
+use crate::splats::splat;
 use crate::tile_bytes::TILE;
 use crate::tile_bytes::put_tile;
-use crate::tile_bytes::tile_at;
 use cells::block::Block;
 use cells::pos::Pos4;
 use rows::setup::TileRange;
 use rows::setup::tile_sbrow_init;
 use rows::splat::Splat;
-use rows::splat::splat_mv;
 ghost use mathlib.Core.Path.{_≡_};
 ghost use Prim.Native.Nat.{_≤_};
 ghost use lib.ListN.{length};
@@ -126,10 +125,5 @@ pub extern "C" fn jaskkovir_splat_mv(
     if splat_lacks(frame.len(), tile.len(), block.len()) {
         return 4;
     }
-    splat_mv(
-        frame_at(frame),
-        tile_at(tile),
-        splat_of(block, y, x, w, h),
-        records,
-    )
+    splat(frame, tile, splat_of(block, y, x, w, h), records)
 }
