@@ -1,12 +1,12 @@
 -- A block record in a buffer of records: 12 bytes, two vectors, two references, the size code and mf. And when it is well formed.
-use Prim.Native.Nat.{ℕ, _+_, _*_}
+use Prim.Native.Nat.{ℕ, _+_, _*_, _/_, _%_}
 use mathlib.Core.Bool.{Bool, _&&_, _||_, not}
 use mathlib.Core.List.{List, [], _∷_, _++_}
 use lib.Dec.{leb}
 use lib.IntN.{pos, negsuc}
 use lib.ListN.{getD}
 use Rattle.ground.specs.Sign.{fromTo}
-use Rattle.ground.specs.Twos.{byteAt, byteOf}
+use Rattle.ground.specs.Twos.{twos8, byteAt, byteOf}
 use Rattle.vector.specs.Vector.{within, mvAt, mvBytes}
 use Rattle.vector.specs.declared.mv.Mv.{Mv}
 use Rattle.cells.specs.declared.cell.Ref.{Ref}
@@ -20,6 +20,10 @@ vectorsAt l i = record { first = mvAt l i; second = mvAt l (i + 4) }
 
 abbrev pub refsAt : List ℕ → ℕ → RefPair
 refsAt l i = record { first = record { 0 = byteAt l i }; second = record { 0 = byteAt l (i + 1) } }
+
+-- the two references in the low bytes of a number
+abbrev pub refsIn : ℕ → RefPair
+refsIn n = record { first = record { 0 = twos8 (n % 256) }; second = record { 0 = twos8 (n / 256 % 256) } }
 
 -- record i of a buffer, and the bytes that hold a record
 unfoldable pub blockAt : List ℕ → ℕ → Block

@@ -1,6 +1,7 @@
 // The block record, 12 bytes: what a decoded block leaves for its neighbours and for the saved
 // field.
 use crate::cell::Ref;
+use ground::read::word_at;
 use ground::twos::byte_bits;
 use ground::twos::signed_byte;
 use vector::mv::Mv;
@@ -8,7 +9,7 @@ ghost use mathlib.Core.Path.{_≡_};
 ghost use Prim.Native.Nat.{_+_, _*_, _≤_};
 ghost use lib.ListN.{length};
 ghost use Rattle.ground.specs.Put.{put};
-ghost use Rattle.cells.specs.Block.{vectorsAt, refsAt, blockAt, tailBytes, blockBytes, boundTo, wellBlock};
+ghost use Rattle.cells.specs.Block.{vectorsAt, refsIn, blockAt, tailBytes, blockBytes, boundTo, wellBlock};
 
 pub struct MvPair {
     pub first: Mv,
@@ -48,12 +49,12 @@ fn read_vectors(s: &[u8], at: usize) -> MvPair
     MvPair { first, second }
 }
 
-fn read_refs(s: &[u8], at: usize) -> RefPair
-    requires { ⌜ at + 2 ≤ length (now s) ⌝ }
-    ensures { λ r. ⌜ r ≡ refsAt (now (s .entry)) at ⌝ }
+// The references in the two low bytes of a number.
+fn refs_of(n: u32) -> RefPair
+    ensures { λ r. ⌜ r ≡ refsIn n ⌝ }
 {
-    let first = signed_byte(s[at]);
-    let second = signed_byte(s[at + 1]);
+    let first = signed_byte((n % 256) as u8);
+    let second = signed_byte((n / 256 % 256) as u8);
     RefPair {
         first: Ref(first),
         second: Ref(second),
@@ -61,19 +62,21 @@ fn read_refs(s: &[u8], at: usize) -> RefPair
 }
 
 impl Block {
-    // The record of number i in a buffer of records.
+    // The record of number i in a buffer of records. What stands behind the vectors is read as one
+    // number, so that it is laid as one where the record is copied.
     pub fn read(s: &[u8], i: usize) -> Block
         requires { ⌜ 12 * i + 12 ≤ length (now s) ⌝ }
         ensures { λ r. ⌜ r ≡ blockAt (now (s .entry)) i ⌝ }
     {
         let at = 12 * i;
         let mv = read_vectors(s, at);
-        let refs = read_refs(s, at + 8);
+        let tail = word_at(s, at + 8);
+        let refs = refs_of(tail);
         Block {
             mv,
             refs,
-            bs: s[at + 10],
-            mf: s[at + 11],
+            bs: (tail / 65536 % 256) as u8,
+            mf: (tail / 16777216 % 256) as u8,
         }
     }
 

@@ -1,7 +1,7 @@
 -- A number of four bytes that was laid down, and read again.
 -- Assumes nothing.
 use mathlib.Core.Path.{_≡_, sym, ap, _∙_}
-use mathlib.Core.List.{List}
+use mathlib.Core.List.{List, [], _∷_}
 use Prim.Native.Nat.{ℕ, suc, _+_, _*_, _/_, _%_, _^_, _≤_, _<_}
 use native.Mathlib.Nat.{add-zero, div-div-eq-div-mul, div-add-mod'}
 use native.Mathlib.Numerals.{add-one}
@@ -25,6 +25,19 @@ four-whole n h =
     (ap (λ (k : ℕ). k * 256 + n / 256 % 256) (sym (div-div-eq-div-mul n 256 256)) ∙ div-add-mod' (n / 256) 256)
     (ap (λ (k : ℕ). k * 256 + n / 65536 % 256) (sym (div-div-eq-div-mul n 65536 256)) ∙ div-add-mod' (n / 65536) 256)
     e
+
+-- four bytes that were read as a number are its bytes
+pub bytes-back : (a b c d : ℕ) → a < 256 → b < 256 → c < 256 → d < 256 → fourBytes (four a b c d) ≡ a ∷ b ∷ c ∷ d ∷ []
+bytes-back a b c d h i j k =
+    let n = four a b c d in
+    let e : n % 256 ≡ a = omega arith in
+    let q : n / 256 ≡ b + 256 * c + 65536 * d = omega arith in
+    let r : n / 65536 ≡ c + 256 * d = omega arith in
+    let t : n / 16777216 ≡ d = omega arith in
+    let f : (b + 256 * c + 65536 * d) % 256 ≡ b = omega arith in
+    let g : (c + 256 * d) % 256 ≡ c = omega arith in
+    let m : d % 256 ≡ d = omega arith in
+    rw (e, q, r, t, f, g, m)
 
 pub four-back : (l : List ℕ) (i n : ℕ) → i + 4 ≤ length l → n < 2 ^ 32 → fourAt (put l i (fourBytes n)) i ≡ n
 four-back l i n h k =

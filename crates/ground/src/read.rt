@@ -1,8 +1,9 @@
 // Numbers out of lent bytes, the low byte first.
 ghost use mathlib.Core.Path.{_≡_};
 ghost use Prim.Native.Nat.{_+_, _*_, _≤_, min};
-ghost use lib.ListN.{length};
-ghost use Rattle.ground.specs.Little.{four, fourAt, held16};
+ghost use mathlib.Core.List.{_∷_, []};
+ghost use lib.ListN.{length, getD};
+ghost use Rattle.ground.specs.Little.{four, fourAt, fourBytes, held16};
 
 fn joined(a: u8, b: u8, c: u8, d: u8) -> u32
     ensures { λ r. ⌜ r ≡ four a b c d ⌝ }
@@ -15,6 +16,20 @@ pub fn u32_at(s: &[u8], at: usize) -> u32
     ensures { λ r. ⌜ r ≡ fourAt (now (s .entry)) at ⌝ }
 {
     joined(s[at], s[at + 1], s[at + 2], s[at + 3])
+}
+
+fn whole(a: u8, b: u8, c: u8, d: u8) -> u32
+    ensures { λ r. ⌜ fourBytes r ≡ a ∷ b ∷ c ∷ d ∷ [] ⌝ }
+{
+    joined(a, b, c, d)
+}
+
+// Four bytes in one number, to be taken apart again.
+pub fn word_at(s: &[u8], at: usize) -> u32
+    requires { ⌜ at + 4 ≤ length (now s) ⌝ }
+    ensures { λ r. ⌜ fourBytes r ≡ getD (now (s .entry)) at 0 ∷ getD (now (s .entry)) (at + 1) 0 ∷ getD (now (s .entry)) (at + 2) 0 ∷ getD (now (s .entry)) (at + 3) 0 ∷ [] ⌝ }
+{
+    whole(s[at], s[at + 1], s[at + 2], s[at + 3])
 }
 
 pub fn size_at(s: &[u8], at: usize) -> usize

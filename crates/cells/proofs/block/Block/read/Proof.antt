@@ -1,5 +1,10 @@
 -- `cells::block::Block::read` meets its contract.
 -- Assumes nothing.
+use mathlib.Core.Path.{_≡_, ap}
+use mathlib.Core.List.{List}
+use Prim.Native.Nat.{ℕ, _+_, _*_}
+use native.Mathlib.Omega.{arith}
+use lib.ListN.{getD}
 use Rattle.cells.specs.Block.{blockAt}
 use borrow.Author.Needs.{needs}
 use Rattle.cells.proofs.block.Block.read.Statement.{statement}
@@ -11,38 +16,30 @@ mul-at c = search needs
 read-vectors-requires : tie.Need-read-vectors-requires
 read-vectors-requires c κs = search needs
 
-add-read-refs : tie.Need-add-read-refs
-add-read-refs c = search needs
+add-word-at : tie.Need-add-word-at
+add-word-at c = search needs
 
-read-refs-requires : tie.Need-read-refs-requires
-read-refs-requires c κs = search needs
+word-at-requires : tie.Need-word-at-requires
+word-at-requires c κs = search needs
 
-add-t6 : tie.Need-add-t6
-add-t6 c = search needs
+refs-of-requires : tie.Need-refs-of-requires
+refs-of-requires c κs = search needs
 
-shared-slice-read-t8 : tie.Need-shared-slice-read-t8
-shared-slice-read-t8 c = search needs
+cast-t10 : tie.Need-cast-t10
+cast-t10 c = search needs
 
-add-t9 : tie.Need-add-t9
-add-t9 c = search needs
-
-shared-slice-read-t11 : tie.Need-shared-slice-read-t11
-shared-slice-read-t11 c = search needs
+cast-t13 : tie.Need-cast-t13
+cast-t13 c = search needs
 
 returns : tie.Need-returns
 unfolding blockAt
-returns c = (cc (c .before .before .before .read-vectors .ensures, c .before .before .read-refs .ensures))
+returns c =
+    let i = c .before .before .before .before .args .i in
+    let w = c .before .word-at .ensures in
+    let j : 12 * i + 8 + 2 ≡ 12 * i + 10 = omega arith in
+    let k : 12 * i + 8 + 3 ≡ 12 * i + 11 = omega arith in
+    rw (c .before .before .read-vectors .ensures, c .refs-of .ensures, ap (λ (xs : List ℕ). getD xs 0 0) w, ap (λ (xs : List ℕ). getD xs 1 0) w, ap (λ (xs : List ℕ). getD xs 2 0) w, ap (λ (xs : List ℕ). getD xs 3 0) w, j, k)
 
 pub read-spec : {M : Type 1} → statement M
 read-spec =
-    tie.close
-    (tie.spec
-    mul-at
-    read-vectors-requires
-    add-read-refs
-    read-refs-requires
-    add-t6
-    shared-slice-read-t8
-    add-t9
-    shared-slice-read-t11
-    returns)
+    tie.close (tie.spec mul-at read-vectors-requires add-word-at word-at-requires refs-of-requires cast-t10 cast-t13 returns)
