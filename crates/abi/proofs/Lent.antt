@@ -19,9 +19,6 @@ use Rattle.frame.specs.declared.record.Frame.{Frame}
 use Rattle.frame.specs.declared.setup.Setup.{Setup}
 use Rattle.frame.specs.Description.{setupAnswer}
 use Rattle.frame.specs.Record.{frameOf, noFrame, setupOf}
-use Rattle.rows.specs.declared.setup.TileRange.{TileRange}
-use Rattle.rows.specs.declared.setup.RowSetup.{RowSetup}
-use Rattle.rows.specs.Setup.{tileOf, rowsAnswer, noTile, rowSetupOf}
 use Rattle.abi.specs.Framed.{whole, initLacks}
 use Rattle.abi.specs.Tiled.{splatLacks}
 use Rattle.abi.specs.Moved.{loadLacks}
@@ -77,18 +74,6 @@ pub replaced : (s to : List ℕ) {r : List ℕ} → length to ≤ length s
 replaced s to h q =
     let n : length (take (length to) s) ≡ length to = simp length-take (omega arith) in
     q ∙ rw (take-length (take (length to) s), n, drop-length to, append-nil)
-
--- what superblock-row setup returned
-pub row-answer : {r : RowSetup} (f : Frame) (col row : TileRange) (sby tile pass : ℕ) → r ≡ rowSetupOf f col row sby tile pass
-    → r .answer ≡ rowsAnswer f col row tile pass
-unfolding rowSetupOf
-row-answer f col row sby tile pass e = ap (λ (s : RowSetup). s .answer) e
-
-pub row-tile : {r : RowSetup} (f : Frame) (col row : TileRange) (sby tile pass : ℕ) → r ≡ rowSetupOf f col row sby tile pass
-    → rowsAnswer f col row tile pass ≡ 0 → r .tile ≡ tileOf f col row sby tile pass
-unfolding rowSetupOf
-row-tile f col row sby tile pass e z =
-    ap (λ (s : RowSetup). s .tile) e ∙ sym (beside-accepted (rowsAnswer f col row tile pass) (tileOf f col row sby tile pass) noTile z)
 
 -- a splat's parts
 pub record Room (f t b : ℕ) : Type 0 where

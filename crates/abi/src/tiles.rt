@@ -7,7 +7,8 @@ use crate::tile_bytes::put_tile;
 use cells::block::Block;
 use cells::pos::Pos4;
 use rows::setup::TileRange;
-use rows::setup::tile_sbrow_init;
+use rows::setup::admit;
+use rows::setup::tile_of;
 use rows::splat::Splat;
 ghost use mathlib.Core.Path.{_≡_};
 ghost use Prim.Native.Nat.{_≤_};
@@ -22,6 +23,8 @@ ghost use Rattle.abi.specs.Tiled.{range, rowInitAnswer, rowInitScript, s
 
 const BLOCK: usize = 12;
 
+// The steps of `rows::setup::tile_sbrow_init` one by one: what that returns holds a tile beside a
+// refusal too, and so a table that is copied out of one of two places.
 fn set_row(
     frame: &[u8],
     col: TileRange,
@@ -35,13 +38,12 @@ fn set_row(
     ensures { λ r. ⌜ r ≡ rowsAnswer (frameAt (now (frame .entry))) col row «tile_row» pass ⌝ }
     ensures { λ _. ⌜ now (tile .exit) ≡ run (accepted (rowsAnswer (frameAt (now (frame .entry))) col row «tile_row» pass) (whole (tileBytes (tileOf (frameAt (now (frame .entry))) col row sby «tile_row» pass)))) (now (tile .entry)) ⌝ }
 {
-    let made = tile_sbrow_init(frame_at(frame), col, row, sby, tile_row, pass);
-    let answer = made.answer;
+    let f = frame_at(frame);
+    let answer = admit(f, col, row, tile_row, pass);
     if answer != 0 {
         return answer;
     }
-    let t = made.tile;
-    put_tile(tile, t);
+    put_tile(tile, tile_of(f, col, row, sby, tile_row, pass));
     answer
 }
 

@@ -66,7 +66,7 @@ pub fn in_frame(s: Sizes, tile: usize) -> bool
     s.part(tile) < s.tile_rows
 }
 
-fn admit(f: Frame, col: TileRange, row: TileRange, tile: usize, pass: usize) -> u8
+pub fn admit(f: Frame, col: TileRange, row: TileRange, tile: usize, pass: usize) -> u8
     ensures { λ r. ⌜ r ≡ rowsAnswer f col row tile pass ⌝ }
 {
     if !is_pass(pass) {
@@ -106,7 +106,14 @@ pub fn table_for(s: Sizes, sby: usize, tile: usize, pass: usize) -> [RowEntry; 3
     table_of(s.sbsz, sby % 2 == 1, first, 2 * s.stride)
 }
 
-fn tile_of(f: Frame, col: TileRange, row: TileRange, sby: usize, tile: usize, pass: usize) -> Tile
+pub fn tile_of(
+    f: Frame,
+    col: TileRange,
+    row: TileRange,
+    sby: usize,
+    tile: usize,
+    pass: usize,
+) -> Tile
     requires { ⌜ rowsAnswer f col row tile pass ≡ 0 ⌝ }
     ensures { λ r. ⌜ r ≡ tileOf f col row sby tile pass ⌝ }
 {
