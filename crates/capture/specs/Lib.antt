@@ -1,0 +1,2 @@
+-- The capture file (document 01, "Capture file").
+pub mod File

@@ -1,0 +1,52 @@
+// What stands in a capture file for a kind.
+use crate::entries::entries_of;
+use crate::entries::entry_of;
+use crate::entries::is_well;
+use crate::entries::start_of;
+ghost use mathlib.Core.Path.{_≡_};
+ghost use Rattle.capture.specs.File.{scanOf, partOf, bodyOf};
+
+// Where the body of a kind starts and ends.
+pub enum Scan {
+    Malformed,
+    Absent,
+    Present(usize, usize),
+}
+
+// Whether the file is malformed, has no entry of the kind, or has one.
+pub fn scan_for(file: &[u8], kind: u8) -> Scan
+    ensures { λ r. ⌜ r ≡ scanOf (now (file .entry)) kind ⌝ }
+{
+    if !is_well(file) {
+        return Scan::Malformed;
+    }
+    let i = entry_of(file, kind as usize);
+    if entries_of(file) <= i {
+        return Scan::Absent;
+    }
+    Scan::Present(start_of(file, i), start_of(file, i + 1))
+}
+
+fn part(file: &[u8], start: usize, end: usize) -> &[u8]
+    ensures { λ r. ⌜ now r ≡ partOf (now (file .entry)) start end ⌝ }
+{
+    if end < start {
+        return &file[0..0];
+    }
+    if file.len() < end {
+        return &file[0..0];
+    }
+    &file[start..end]
+}
+
+// The body of a kind, as that part of the lent file: empty for an absent kind or a malformed file.
+pub fn body(file: &[u8], kind: u8) -> &[u8]
+    ensures { λ r. ⌜ now r ≡ bodyOf (now (file .entry)) kind ⌝ }
+{
+    let s = scan_for(file, kind);
+    match s {
+        Scan::Present(start, end) => part(file, start, end),
+        Scan::Absent => &file[0..0],
+        Scan::Malformed => &file[0..0],
+    }
+}
