@@ -6,3 +6,4 @@ pub mod Read
 pub mod Places
 pub mod KeptFrame
 pub mod KeptTile
+pub mod LentJobs

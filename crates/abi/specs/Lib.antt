@@ -5,3 +5,5 @@ pub mod Framed
 pub mod TileBytes
 pub mod Tiled
 pub mod Moved
+pub mod JobBytes
+pub mod Batched

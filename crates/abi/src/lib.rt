@@ -1,6 +1,7 @@
 // The functions exported to C and Rust. Numbers pass as themselves, a lent part as a pointer and a
-// length. A frame record crosses as 109 bytes and a tile as 168: frame_bytes and tile_bytes have
-// the layouts.
+// length. A frame record crosses as 109 bytes, a tile as 168 and a job as 17: frame_bytes,
+// tile_bytes and batches have the layouts.
+pub mod batches;
 mod frame_bytes;
 pub mod frames;
 pub mod leaves;

@@ -13,7 +13,7 @@ ghost use Rattle.ground.specs.Script.{run};
 ghost use Rattle.loading.specs.Load.{lent};
 ghost use Rattle.abi.specs.Moved.{area, savedAnswer, savedScript, loadLacks, loadedAnswer, loadedScript};
 
-fn area_of(tile: usize, left: usize, right: usize, top: usize, bottom: usize) -> Area
+pub(crate) fn area_of(tile: usize, left: usize, right: usize, top: usize, bottom: usize) -> Area
     ensures { λ r. ⌜ r ≡ area tile left right top bottom ⌝ }
 {
     Area {
@@ -57,7 +57,7 @@ pub extern "C" fn jaskkovir_save_tmvs(
 }
 
 // Lengths alone, so that a part that is too short is never read.
-fn load_lacks(frame: usize, present: usize) -> bool
+pub(crate) fn load_lacks(frame: usize, present: usize) -> bool
     ensures { λ r. ⌜ r ≡ loadLacks frame present ⌝ }
 {
     if frame < FRAME {

@@ -1,0 +1,42 @@
+-- What admission and a step on lent bytes answer, and what a step writes. A frame, or present flags, that are too short are refused with 4, before anything else.
+use Prim.Native.Nat.{ℕ, _+_, _*_}
+use mathlib.Core.List.{List, [], _∷_}
+use lib.ListN.{length, take}
+use Rattle.ground.specs.Answer.{accepted}
+use Rattle.ground.specs.Little.{fourBytes}
+use Rattle.ground.specs.Pick.{pick}
+use Rattle.ground.specs.Script.{Patch}
+use Rattle.jobs.specs.Admit.{Handed, handed, batchAnswer}
+use Rattle.jobs.specs.Step.{turnNumber, turnProj, turnSaved}
+use Rattle.abi.specs.FrameBytes.{frameAt}
+use Rattle.abi.specs.Moved.{loadLacks}
+use Rattle.abi.specs.JobBytes.{jobIn, batchIn}
+
+-- what the bytes hand over beside the jobs: nproj and nsaved are the lengths of the parts lent for the projection and the saved field
+abbrev pub handedIn : (frame present : List ℕ) → List (List ℕ) → List ℕ → (nproj nsaved : ℕ) → Handed
+handedIn frame present fields recs nproj nsaved = handed (frameAt frame) (take 7 present) fields recs nproj nsaved
+
+unfoldable pub admittedAnswer : (frame present jobs : List ℕ) → List (List ℕ) → List ℕ → (nproj nsaved : ℕ) → ℕ
+admittedAnswer frame present jobs fields recs nproj nsaved =
+    pick (loadLacks (length frame) (length present)) 4 (batchAnswer (handedIn frame present fields recs nproj nsaved) (batchIn jobs))
+
+-- A step naming job k: its number, 0 where it is counted and 15 where the job is done, and what it lays over the three parts that it may write.
+unfoldable pub steppedNumber : (frame present jobs : List ℕ) → ℕ → List (List ℕ) → List ℕ → (nproj nsaved : ℕ) → ℕ
+steppedNumber frame present jobs k fields recs nproj nsaved =
+    pick (loadLacks (length frame) (length present)) 4 (turnNumber (handedIn frame present fields recs nproj nsaved) (batchIn jobs) k)
+
+unfoldable pub steppedProj : (frame present jobs : List ℕ) → ℕ → List (List ℕ) → List ℕ → (nproj nsaved : ℕ) → List Patch
+steppedProj frame present jobs k fields recs nproj nsaved =
+    pick (loadLacks (length frame) (length present)) [] (turnProj (handedIn frame present fields recs nproj nsaved) (batchIn jobs) k)
+
+unfoldable pub steppedSaved : (frame present jobs : List ℕ) → ℕ → List (List ℕ) → List ℕ → (nproj nsaved : ℕ) → List Patch
+steppedSaved frame present jobs k fields recs nproj nsaved =
+    pick (loadLacks (length frame) (length present)) [] (turnSaved (handedIn frame present fields recs nproj nsaved) (batchIn jobs) k)
+
+-- of the jobs, the four bytes of job k's steps done
+unfoldable pub donePatch : ℕ → ℕ → List Patch
+donePatch k done = record { at = 17 * k + 13; bytes = fourBytes done } ∷ []
+
+unfoldable pub steppedJobs : (frame present jobs : List ℕ) → ℕ → List (List ℕ) → List ℕ → (nproj nsaved : ℕ) → List Patch
+steppedJobs frame present jobs k fields recs nproj nsaved =
+    accepted (steppedNumber frame present jobs k fields recs nproj nsaved) (donePatch k (jobIn jobs k .done + 1))
