@@ -39,6 +39,12 @@ extern "C" {
 #define JASKKOVIR_LISTED_LEN 12
 #define JASKKOVIR_CELL_LEN 5
 
+/* Bytes of a job. */
+#define JASKKOVIR_JOB_LEN 17
+
+/* What a step of a finished job answers: neither acceptance nor a refusal. */
+#define JASKKOVIR_DONE 15
+
 enum jaskkovir_refusal {
     JASKKOVIR_ACCEPTED = 0,
     /* A width or height that isn't 1..16384, tile rows not 1..64, thread counts not 1..255, a flag
@@ -66,7 +72,8 @@ enum jaskkovir_refusal {
     JASKKOVIR_BLOCK = 10,
     /* Two jobs' windows share a cell. */
     JASKKOVIR_SHARED = 11,
-    /* A pass that isn't 1 or 2; jobs and steps that don't fit. */
+    /* A pass that isn't 1 or 2, a job kind not 0 or 1, steps done above the job's count; no job or
+     * more than 8, a step that names no job. */
     JASKKOVIR_JOB = 12,
     /* A malformed capture. */
     JASKKOVIR_CAPTURE = 13
@@ -148,6 +155,40 @@ uint8_t jaskkovir_load_tmvs(const uint8_t *frame, size_t frame_len, size_t tile_
                             const uint8_t *f3, size_t f3_len, const uint8_t *f4, size_t f4_len,
                             const uint8_t *f5, size_t f5_len, const uint8_t *f6, size_t f6_len,
                             uint8_t *proj, size_t proj_len);
+
+/* Loads and saves as jobs: admitted together, then stepped one row of work at a time, in any order.
+ * A batch is one to eight jobs of 17 bytes each:
+ *   0    kind, 0 for a load and 1 for a save; tile row (bytes)
+ *   2    column start, column end, row start, row end, superblock row (u16)
+ *   12   pass, 1 or 2, of a load too (byte)
+ *   13   steps done (u32), 0 at first
+ * A load has its rows (cut to the frame) times one more than its used references as steps: each row
+ * is cleared, then each reference's rows are read. A save has its rows. */
+
+/* Whether the jobs may be stepped together: each load and save would be accepted whole, and no two
+ * windows share a cell. present and f0..f6 are a load's, recs a save's; proj and saved are what they
+ * write, of which only the lengths count here.
+ * Answers 0, 1, 3 to 9, 11 or 12; writes nothing. */
+uint8_t jaskkovir_admit(const uint8_t *frame, size_t frame_len, const uint8_t *present,
+                        size_t present_len, const uint8_t *jobs, size_t jobs_len,
+                        const uint8_t *f0, size_t f0_len, const uint8_t *f1, size_t f1_len,
+                        const uint8_t *f2, size_t f2_len, const uint8_t *f3, size_t f3_len,
+                        const uint8_t *f4, size_t f4_len, const uint8_t *f5, size_t f5_len,
+                        const uint8_t *f6, size_t f6_len, const uint8_t *recs, size_t recs_len,
+                        const uint8_t *proj, size_t proj_len, const uint8_t *saved,
+                        size_t saved_len);
+
+/* One row of job k's work, the first being job 0. All parts are those that were admitted, as they
+ * then stand; of any other the step itself judges what it needs.
+ * Answers 0 where the row is done and counted, JASKKOVIR_DONE where none was left, or 1, 3 to 9 or
+ * 12. Only on 0 it writes: cells of proj for a load, of saved for a save, and the job's steps done. */
+uint8_t jaskkovir_step(const uint8_t *frame, size_t frame_len, const uint8_t *present,
+                       size_t present_len, uint8_t *jobs, size_t jobs_len, size_t k,
+                       const uint8_t *f0, size_t f0_len, const uint8_t *f1, size_t f1_len,
+                       const uint8_t *f2, size_t f2_len, const uint8_t *f3, size_t f3_len,
+                       const uint8_t *f4, size_t f4_len, const uint8_t *f5, size_t f5_len,
+                       const uint8_t *f6, size_t f6_len, const uint8_t *recs, size_t recs_len,
+                       uint8_t *proj, size_t proj_len, uint8_t *saved, size_t saved_len);
 
 #ifdef __cplusplus
 }

@@ -1,7 +1,9 @@
 //! Compares the port with the Rust, and its refusals with document 01, on seeded inputs and on real
 //! streams. Prints a line for each part, and fails on any difference.
 
+mod batches;
 mod codec;
+mod desk;
 mod fields;
 mod frames;
 mod layout;

@@ -4,12 +4,13 @@
 //! [`refusal`]'s numbers, and then every lent byte is as before. Only the three [`leaves`] have a
 //! domain; outside it they give nothing.
 //!
-//! The functions of [`calls`] take slices of any length. [`Frame`] and [`Tile`] hold the two parts
-//! of a fixed size.
+//! The functions of [`calls`], [`tmvs`] and [`jobs`] take slices of any length. [`Frame`], [`Tile`]
+//! and [`Job`] hold the parts of a fixed size.
 
 mod abi;
 pub mod calls;
 mod frame;
+pub mod jobs;
 pub mod leaves;
 pub mod refusal;
 mod tile;
@@ -17,4 +18,5 @@ pub mod tmvs;
 
 pub use frame::Frame;
 pub use frame::Listed;
+pub use jobs::Job;
 pub use tile::Tile;

@@ -2,6 +2,7 @@
 
 mod checks;
 mod example;
+mod jobs;
 mod leaves;
 mod loads;
 mod rows;
@@ -32,6 +33,7 @@ pub fn all() -> impl Iterator<Item = (&'static str, Part)> {
         ("splat", splats::compare),
         ("save", saves::compare),
         ("load", loads::compare),
+        ("jobs", jobs::compare),
         ("shorts", shorts::compare),
         (SEQUENCES, sequences::compare),
         ("example", example::compare),

@@ -9,11 +9,14 @@ use jaskkovir::calls;
 use jaskkovir::calls::Block;
 use jaskkovir::calls::Description;
 use jaskkovir::calls::Row;
+use jaskkovir::jobs;
+use jaskkovir::jobs::Sources;
 use jaskkovir::refusal::BUFFER;
 use jaskkovir::tmvs;
 use jaskkovir::tmvs::Saving;
 use jaskkovir::tmvs::Window;
 use jaskkovir::Frame;
+use jaskkovir::Job;
 use jaskkovir::Listed;
 use jaskkovir::Tile;
 use shared::split_mix::SplitMix64;
@@ -29,6 +32,7 @@ pub fn compare(options: &Options) -> Result<Tally, String> {
         splat_mv(&mut random, &mut tally);
         save_tmvs(&mut random, &mut tally);
         load_tmvs(&mut random, &mut tally);
+        jobs(&mut random, &mut tally);
     }
     Ok(tally)
 }
@@ -175,6 +179,27 @@ fn load_tmvs(random: &mut SplitMix64, tally: &mut Tally) {
         let fields = [field.as_slice(); 7];
         let answer = tmvs::load_tmvs(frame, &window, present, fields, &mut projection);
         told(tally, "load_tmvs", &lens, answer, projection == lent);
+    }
+}
+
+fn jobs(random: &mut SplitMix64, tally: &mut Tally) {
+    let (frame, present) = (frame(random), random.bytes::<7>());
+    let (part, batch) = (random.bytes::<200>(), random.bytes::<{ 4 * Job::LEN }>());
+    let batch = &batch[..random.below(batch.len() + 1)];
+    let [k] = numbers(random);
+    for lens in short_lens([Frame::LEN, present.len()]) {
+        let sources = Sources {
+            frame: &frame[..lens[0]],
+            present: &present[..lens[1]],
+            fields: [&part; 7],
+            records: &part,
+        };
+        let answer = jobs::admit(&sources, batch, &part, &part);
+        told(tally, "admit", &lens, answer, true);
+        let (mut after, mut projection, mut saved) = (batch.to_vec(), part, part);
+        let answer = jobs::step(&sources, &mut after, k, &mut projection, &mut saved);
+        let as_lent = after == batch && [projection, saved] == [part; 2];
+        told(tally, "step", &lens, answer, as_lent);
     }
 }
 
