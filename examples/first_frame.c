@@ -157,6 +157,30 @@ static void load(const uint8_t *frame, size_t saved, size_t projected)
     free(proj);
 }
 
+/* The same load as a batch of one job, stepped until it is done: eight rows cleared, then read. */
+static void batch(const uint8_t *frame, size_t saved, size_t projected)
+{
+    uint8_t job[JASKKOVIR_JOB_LEN] = {0, 0, 0, 0, 8, 0, 0, 0, 8, 0, 0, 0, 1};
+    size_t field_len = saved * JASKKOVIR_CELL_LEN, proj_len = projected * JASKKOVIR_CELL_LEN;
+    uint8_t *field = lend(saved, JASKKOVIR_CELL_LEN);
+    uint8_t *proj = lend(projected, JASKKOVIR_CELL_LEN);
+    memset(field, 0, field_len);
+    expect("admission",
+           jaskkovir_admit(frame, JASKKOVIR_FRAME_LEN, present, sizeof present, job, sizeof job,
+                           field, field_len, NULL, 0, NULL, 0, NULL, 0, NULL, 0, NULL, 0, NULL, 0,
+                           NULL, 0, proj, proj_len, NULL, 0),
+           JASKKOVIR_ACCEPTED);
+    uint8_t answer = JASKKOVIR_ACCEPTED;
+    while (answer == JASKKOVIR_ACCEPTED)
+        answer = jaskkovir_step(frame, JASKKOVIR_FRAME_LEN, present, sizeof present, job,
+                                sizeof job, 0, field, field_len, NULL, 0, NULL, 0, NULL, 0, NULL,
+                                0, NULL, 0, NULL, 0, NULL, 0, proj, proj_len, NULL, 0);
+    expect("last step", answer, JASKKOVIR_DONE);
+    expect("steps done", number(job + 13), 16);
+    free(field);
+    free(proj);
+}
+
 int main(void)
 {
     uint8_t frame[JASKKOVIR_FRAME_LEN], tile[JASKKOVIR_TILE_LEN], sizes[JASKKOVIR_LISTED_LEN];
@@ -168,6 +192,7 @@ int main(void)
     splat(frame, tile, records, count * JASKKOVIR_RECORD_LEN);
     save(frame, records, count * JASKKOVIR_RECORD_LEN, number(sizes));
     load(frame, number(sizes), number(sizes + 4));
+    batch(frame, number(sizes), number(sizes + 4));
     free(records);
     return EXIT_SUCCESS;
 }
