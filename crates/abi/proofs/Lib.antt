@@ -7,3 +7,4 @@ pub mod Places
 pub mod KeptFrame
 pub mod KeptTile
 pub mod LentJobs
+pub mod KeptJobs

@@ -33,7 +33,7 @@ unfoldable pub steppedSaved : (frame present jobs : List ℕ) → ℕ → List (
 steppedSaved frame present jobs k fields recs nproj nsaved =
     pick (loadLacks (length frame) (length present)) [] (turnSaved (handedIn frame present fields recs nproj nsaved) (batchIn jobs) k)
 
--- of the jobs, the four bytes of job k's steps done
+-- of the jobs, the four bytes of job k's steps done; read again they are the batch that the step leaves (proofs/KeptJobs: `step-kept`)
 unfoldable pub donePatch : ℕ → ℕ → List Patch
 donePatch k done = record { at = 17 * k + 13; bytes = fourBytes done } ∷ []
 
