@@ -19,8 +19,12 @@ pub fn compare(options: &Options) -> Result<Tally, String> {
     let mut random = options.random("jobs");
     let mut tally = Tally::default();
     let mut steps = Steps::default();
-    for _ in 0..options.cases(50_000, 1_000_000) / ON_A_FRAME {
-        let record = frames::record(&mut random, frames::SMALL);
+    for i in 0..options.cases(50_000, 1_000_000) / ON_A_FRAME {
+        let limits = match i % 200 {
+            0 => frames::LARGE,
+            _ => frames::SMALL,
+        };
+        let record = frames::record(&mut random, limits);
         let mut desk = Desk::new(&mut random, record);
         for _ in 0..ON_A_FRAME {
             let question = Question::any(&mut random, &desk);
