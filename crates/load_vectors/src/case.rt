@@ -1,7 +1,6 @@
 // One case: a load's answer, and what it leaves in the projection.
-use crate::saved::Lengths;
-use crate::saved::PART;
-use crate::saved::SPACE;
+use crate::saved::fill;
+use crate::saved::lengths_at;
 use cases::damage::Damage;
 use cases::description::set_up;
 use cases::lent::prepare;
@@ -11,10 +10,16 @@ use ground::read::size_at;
 use lines::print;
 use loading::load::load_tmvs;
 use motion_cases::changes;
+use motion_cases::fields::Lengths;
+use motion_cases::fields::PART;
+use motion_cases::fields::SPACE;
 use motion_cases::place::area_at;
 ghost use mathlib.Core.Path.{_≡_};
 ghost use Prim.Native.Nat.{_≤_};
 ghost use lib.ListN.{length};
+
+// Where the load's area stands.
+const AREA: usize = 108;
 
 // The most bytes of the lent projection.
 const MOST: usize = 40000;
@@ -41,7 +46,7 @@ fn answer_frame(f: Frame, s: &[u8])
     let cells = listed_sizes(f).saved;
     if damage.is_known() {
         if cells <= MOST_CELLS {
-            answer_load(damage.on_frame(f), Lengths::read(s, cells), s);
+            answer_load(damage.on_frame(f), lengths_at(s, cells), s);
         }
     }
 }
@@ -54,7 +59,7 @@ fn answer_load(f: Frame, lengths: Lengths, s: &[u8])
     let n = size_at(s, 128);
     if lengths.own <= PART {
         if n <= MOST {
-            lengths.fill(&mut space, s);
+            fill(lengths, &mut space, s);
             answer_in(&space, &mut proj[..n], f, lengths, s);
         }
     }
@@ -72,7 +77,7 @@ fn load(space: &[u8], proj: &mut [u8], f: Frame, lengths: Lengths, s: &[u8]) -> 
 {
     load_tmvs(
         f,
-        area_at(s),
+        area_at(s, AREA),
         present(s),
         lengths.part(space, 0),
         lengths.part(space, 1),

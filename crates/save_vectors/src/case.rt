@@ -12,6 +12,9 @@ use saving::save::save_tmvs;
 ghost use Prim.Native.Nat.{_≤_};
 ghost use lib.ListN.{length};
 
+// Where the save's area stands.
+const AREA: usize = 108;
+
 // The most bytes of the lent records, and of the lent field.
 const SPACE: usize = 60000;
 
@@ -56,7 +59,7 @@ fn answer_in(recs: &mut [u8], field: &mut [u8], f: Frame, s: &[u8])
     prepare(field);
     let sby = size_at(s, 128);
     let pass = size_at(s, 132);
-    let answer = save_tmvs(f, area_at(s), sby, pass, recs, field);
+    let answer = save_tmvs(f, area_at(s, AREA), sby, pass, recs, field);
     print::start(answer);
     changes::show(field);
 }

@@ -18,8 +18,8 @@ is-known-requires c κs = search needs
 on-frame-requires : tie.Need-on-frame-requires
 on-frame-requires c κs = leb-true _ _ (sym (c .before .before .is-known .ensures) ∙ c .before .if1 .taken)
 
-read-requires-2 : tie.Need-read-requires-2
-read-requires-2 c κs = search needs
+lengths-at-requires : tie.Need-lengths-at-requires
+lengths-at-requires c κs = search needs
 
 answer-load-requires : tie.Need-answer-load-requires
 answer-load-requires c κs = search needs
@@ -41,7 +41,7 @@ answer-frame-spec =
     listed-sizes-requires
     is-known-requires
     on-frame-requires
-    read-requires-2
+    lengths-at-requires
     answer-load-requires
     returns
     returns-2

@@ -8,14 +8,26 @@ use Rattle.motion_cases.proofs.place.area_at.Tie as tie
 size-at-requires : tie.Need-size-at-requires
 size-at-requires c κs = search needs
 
+add-size-at : tie.Need-add-size-at
+add-size-at c = search needs
+
 size-at-requires-2 : tie.Need-size-at-requires-2
 size-at-requires-2 c κs = search needs
+
+add-size-at-2 : tie.Need-add-size-at-2
+add-size-at-2 c = search needs
 
 size-at-requires-3 : tie.Need-size-at-requires-3
 size-at-requires-3 c κs = search needs
 
+add-size-at-3 : tie.Need-add-size-at-3
+add-size-at-3 c = search needs
+
 size-at-requires-4 : tie.Need-size-at-requires-4
 size-at-requires-4 c κs = search needs
+
+add-size-at-4 : tie.Need-add-size-at-4
+add-size-at-4 c = search needs
 
 size-at-requires-5 : tie.Need-size-at-requires-5
 size-at-requires-5 c κs = search needs
@@ -29,8 +41,12 @@ area-at-spec =
     tie.close
     (tie.spec
     size-at-requires
+    add-size-at
     size-at-requires-2
+    add-size-at-2
     size-at-requires-3
+    add-size-at-3
     size-at-requires-4
+    add-size-at-4
     size-at-requires-5
     returns)

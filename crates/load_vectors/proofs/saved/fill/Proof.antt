@@ -1,17 +1,17 @@
--- `load_vectors::saved::Lengths::fill` meets its contract.
+-- `load_vectors::saved::fill` meets its contract.
 -- Assumes nothing.
 use Prim.Native.Nat.{_≤_, _-_}
 use mathlib.Core.Path.{_≡_}
 use lib.ListN.{length}
 use borrow.Author.Needs.{needs}
-use Rattle.load_vectors.proofs.saved.Lengths.fill.Statement.{statement}
-use Rattle.load_vectors.proofs.saved.Lengths.fill.Tie as tie
+use Rattle.load_vectors.proofs.saved.fill.Statement.{statement}
+use Rattle.load_vectors.proofs.saved.fill.Tie as tie
 
 abbrev Inv-loop : tie.InvT-loop
-Inv-loop self space₀ s field₀ space field = (field ≤ 7) × (length space ≡ 84000)
+Inv-loop lengths space₀ s field₀ space field = (field ≤ 7) × (length space ≡ 84000)
 
 abbrev μ-loop : tie.MeasureT-loop
-μ-loop self space₀ s field₀ space field = 7 - field
+μ-loop lengths space₀ s field₀ space field = 7 - field
 
 loop-holds : tie.Need-loop-holds Inv-loop μ-loop
 loop-holds c = search needs
