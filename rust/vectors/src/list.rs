@@ -12,8 +12,13 @@ const HEAD_LEN: usize = 64;
 
 /// A question, and how to come by its answer.
 pub trait Case {
-    /// The length of each case in `stdin`.
+    /// The length of each case in `stdin`, but for what `behind` tells.
     const LEN: usize;
+
+    /// How many more bytes this case has.
+    fn behind(&self) -> usize {
+        0
+    }
 
     fn bytes(&self) -> Vec<u8>;
 
@@ -43,7 +48,7 @@ impl List {
         let mut seen = HashSet::new();
         for case in cases {
             let bytes = case.bytes();
-            assert_eq!(bytes.len(), C::LEN, "a {name} case");
+            assert_eq!(bytes.len(), C::LEN + case.behind(), "a {name} case");
             if !seen.insert(bytes.clone()) {
                 continue;
             }

@@ -5,6 +5,7 @@
 mod cells;
 mod damage;
 mod frame;
+mod job;
 mod leaf;
 mod list;
 mod load;
@@ -48,6 +49,7 @@ fn for_each_list(act: impl Fn(&List) -> Result<(), String>) -> Result<(), String
         splat::list,
         save::list,
         load::list,
+        job::list,
     ] {
         let list = make()?;
         act(&list)?;

@@ -64,6 +64,12 @@ pub fn frames() -> Result<Vec<RealFrame>, String> {
 }
 
 impl RealFrame {
+    /// A frame set-up as it stands in a sequence.
+    pub fn of_event(event: &[u8; sequences::FRAME_LEN]) -> Self {
+        let bytes = shortened(event);
+        Self(bytes.try_into().expect("the event has its length"))
+    }
+
     pub fn question(&self) -> FrameQuestion {
         let body = &self.0[..BODY_LEN];
         let number = |at: usize| u32::from(body[at]);

@@ -43,7 +43,7 @@ pub fn frame(reference: usize) -> FrameQuestion {
 }
 
 /// A vector by which a cell of a reference is moved so many 64ths of a cell, with distance 1.
-fn cell_moved(reference: usize, [y, x]: [i32; 2]) -> [u8; 5] {
+pub fn cell_moved(reference: usize, [y, x]: [i32; 2]) -> [u8; 5] {
     let sign = if reference < 4 { -1 } else { 1 };
     let [y, x] = [y, x].map(|by| (sign * by) as i16);
     cell(Vector { y, x }, 1)

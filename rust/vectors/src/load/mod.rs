@@ -1,10 +1,10 @@
 //! Load.
 
 mod accepted;
-mod edges;
+pub mod edges;
 #[cfg(test)]
 mod plain;
-mod question;
+pub mod question;
 mod refused;
 
 use crate::cells;

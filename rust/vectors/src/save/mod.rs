@@ -1,7 +1,7 @@
 //! Save.
 
 mod accepted;
-mod block;
+pub mod block;
 #[cfg(test)]
 mod plain;
 mod question;

@@ -1,0 +1,77 @@
+-- `job_vectors::laid::lay_all` meets its contract.
+-- Assumes nothing.
+use Prim.Native.Nat.{_≤_, _-_}
+use mathlib.Core.Path.{_≡_}
+use lib.ListN.{length}
+use borrow.Author.Needs.{needs}
+use Rattle.job_vectors.proofs.laid.lay_all.Statement.{statement}
+use Rattle.job_vectors.proofs.laid.lay_all.Tie as tie
+
+abbrev Inv-loop : tie.InvT-loop
+Inv-loop lengths space₀ recs₀ n p₀ counter₀ space recs p counter = (counter ≤ n) × (length space ≡ length space₀) × (length recs ≡ length recs₀) × (length p ≡ 24)
+
+abbrev μ-loop : tie.MeasureT-loop
+μ-loop lengths space₀ recs₀ n p₀ counter₀ space recs p counter = n - counter
+
+loop-holds : tie.Need-loop-holds Inv-loop μ-loop
+loop-holds c = search needs
+
+slice-aggregate-fill : tie.Need-slice-aggregate-fill Inv-loop μ-loop
+slice-aggregate-fill c = search needs
+
+fill-requires : tie.Need-fill-requires Inv-loop μ-loop
+fill-requires c κs = search needs
+
+same-length : tie.Need-same-length Inv-loop μ-loop
+same-length c = search needs
+
+same-length-2 : tie.Need-same-length-2 Inv-loop μ-loop
+same-length-2 c = search needs
+
+returns : tie.Need-returns Inv-loop μ-loop
+returns c = search needs
+
+slice-aggregate-lay : tie.Need-slice-aggregate-lay Inv-loop μ-loop
+slice-aggregate-lay c = search needs
+
+lay-requires : tie.Need-lay-requires Inv-loop μ-loop
+lay-requires c κs = search needs
+
+add-counter : tie.Need-add-counter Inv-loop μ-loop
+add-counter c = search needs
+
+loop-less : tie.Need-loop-less Inv-loop μ-loop
+loop-less c = search needs
+
+loop-again : tie.Need-loop-again Inv-loop μ-loop
+loop-again c = search needs
+
+same-length-3 : tie.Need-same-length-3 Inv-loop μ-loop
+same-length-3 c = search needs
+
+same-length-4 : tie.Need-same-length-4 Inv-loop μ-loop
+same-length-4 c = search needs
+
+returns-2 : tie.Need-returns-2 Inv-loop μ-loop
+returns-2 c = search needs
+
+pub lay-all-spec : {M : Type 1} → statement M
+lay-all-spec =
+    tie.close
+    (tie.spec
+    Inv-loop
+    μ-loop
+    loop-holds
+    slice-aggregate-fill
+    fill-requires
+    same-length
+    same-length-2
+    returns
+    slice-aggregate-lay
+    lay-requires
+    add-counter
+    loop-less
+    loop-again
+    same-length-3
+    same-length-4
+    returns-2)
