@@ -1,13 +1,16 @@
 // Superblock-row setup and splat, on lent bytes.
 use crate::frame_bytes::FRAME;
 use crate::frame_bytes::frame_at;
+use crate::frame_bytes::sizes_at;
+use crate::frame_bytes::well_frame;
 use crate::splats::splat;
 use crate::tile_bytes::TILE;
 use crate::tile_bytes::put_tile;
 use cells::block::Block;
 use cells::pos::Pos4;
 use rows::setup::TileRange;
-use rows::setup::admit;
+use rows::setup::is_pass;
+use rows::setup::is_tile;
 use rows::setup::tile_of;
 use rows::splat::Splat;
 ghost use mathlib.Core.Path.{_≡_};
@@ -22,6 +25,24 @@ ghost use Rattle.abi.specs.Framed.{whole};
 ghost use Rattle.abi.specs.Tiled.{range, rowInitAnswer, rowInitScript, splatOf, splatLacks, laidAnswer, laidScript};
 
 const BLOCK: usize = 12;
+
+// As `rows::setup::admit`, on the record where it stands.
+fn admit(frame: &[u8], col: TileRange, row: TileRange, tile_row: usize, pass: usize) -> u8
+    requires { ⌜ 109 ≤ length (now frame) ⌝ }
+    ensures { λ r. ⌜ r ≡ rowsAnswer (frameAt (now (frame .entry))) col row «tile_row» pass ⌝ }
+{
+    if !is_pass(pass) {
+        return 12;
+    }
+    if !well_frame(frame) {
+        return 1;
+    }
+    if is_tile(sizes_at(frame), col, row, tile_row) {
+        0
+    } else {
+        3
+    }
+}
 
 // The steps of `rows::setup::tile_sbrow_init` one by one: what that returns holds a tile beside a
 // refusal too, and so a table that is copied out of one of two places.
@@ -38,11 +59,11 @@ fn set_row(
     ensures { λ r. ⌜ r ≡ rowsAnswer (frameAt (now (frame .entry))) col row «tile_row» pass ⌝ }
     ensures { λ _. ⌜ now (tile .exit) ≡ run (accepted (rowsAnswer (frameAt (now (frame .entry))) col row «tile_row» pass) (whole (tileBytes (tileOf (frameAt (now (frame .entry))) col row sby «tile_row» pass)))) (now (tile .entry)) ⌝ }
 {
-    let f = frame_at(frame);
-    let answer = admit(f, col, row, tile_row, pass);
+    let answer = admit(frame, col, row, tile_row, pass);
     if answer != 0 {
         return answer;
     }
+    let f = frame_at(frame);
     put_tile(tile, tile_of(f, col, row, sby, tile_row, pass));
     answer
 }

@@ -64,6 +64,11 @@ pub held-fits : (d : Description) (r m : ℕ) {h : ℕ} → hinted d ≡ true �
 unfolding heldAt
 held-fits d r m e i l = let k = under-at (d .«hints_by_ref») (2 ^ d .«hint_bits») (7 * r + m) (hints d e .held) l in omega arith
 
+-- a hint that is read from the list lent beside the description
+pub held-is : (d : Description) (r m : ℕ) {xs : List ℕ} {h : ℕ} → xs ≡ d .«hints_by_ref» → h ≡ getD xs (7 * r + m) 0 → h ≡ heldAt d r m
+unfolding heldAt
+held-is d r m e i = i ∙ ap (λ (l : List ℕ). getD l (7 * r + m) 0) e
+
 -- what acceptance tells
 passes : (s t : Bool) → _≡_ {A = ℕ} (pick s (pick t 0 2) 1) 0 → (s ≡ true) × (t ≡ true)
 passes true true e = (refl, refl)

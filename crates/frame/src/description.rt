@@ -1,7 +1,8 @@
 // What a decoder hands over to set a frame up, and whether it is in order.
 use crate::sizes::limited;
 ghost use mathlib.Core.Path.{_≡_};
-ghost use Prim.Native.Nat.{_≤_, _<_, _^_};
+ghost use Prim.Native.Nat.{_+_, _*_, _≤_, _<_, _^_};
+ghost use lib.ListN.{length, getD};
 ghost use Rattle.frame.specs.Description.{under, flags, hinted, setupAnswer, hintAt, heldAt};
 
 // References are counted from 0, which is LAST, to 6, which is ALTREF. hints_by_ref holds, from 7 * i
@@ -60,18 +61,31 @@ fn hint_limit(bits: u32) -> u32
     1u32 << bits
 }
 
+// All bytes together have a bit above the low ones where one of them has: one test for all.
+fn all_fit(xs: &[u8], bits: u32) -> bool
+    requires { ⌜ bits ≤ 8 ⌝ }
+    ensures { λ r. ⌜ r ≡ under (now (xs .entry)) (2 ^ bits) ⌝ }
+{
+    let mut together: u8 = 0;
+    let mut i: usize = 0;
+    while i < xs.len() {
+        together = together | xs[i];
+        i += 1;
+    }
+    wide(together) < hint_limit(bits)
+}
+
 fn hints_fit(d: Description) -> bool
     ensures { λ r. ⌜ r ≡ hinted d ⌝ }
 {
     if 8 < d.hint_bits {
         return false;
     }
-    let whole = hint_limit(d.hint_bits);
-    if whole <= d.current_hint {
+    if hint_limit(d.hint_bits) <= d.current_hint {
         return false;
     }
-    if all_under(&d.hints, whole) {
-        return all_under(&d.hints_by_ref, whole);
+    if all_fit(&d.hints, d.hint_bits) {
+        return all_fit(&d.hints_by_ref, d.hint_bits);
     }
     false
 }
@@ -111,4 +125,12 @@ pub(crate) fn held(d: Description, r: usize, m: usize) -> u32
 {
     let hints = d.hints_by_ref;
     wide(hints[7 * r + m])
+}
+
+// The same, of the hints lent: for a reference that is not fixed the array would be copied first.
+pub(crate) fn held_in(held: &[u8], r: usize, m: usize) -> u32
+    requires { ⌜ (length (now held) ≡ 49) × (r < 7) × (m < 7) ⌝ }
+    ensures { λ a. ⌜ a ≡ getD (now (held .entry)) (7 * r + m) 0 ⌝ }
+{
+    wide(held[7 * r + m])
 }

@@ -1,6 +1,6 @@
 // A reference that is projected: where it stands to the current frame, and its own references to it.
 use crate::description::Description;
-use crate::description::held;
+use crate::description::held_in;
 use crate::description::hint;
 use crate::distances::from_current;
 use crate::distances::near;
@@ -17,7 +17,7 @@ ghost use Prim.Native.Nat.{_<_};
 ghost use lib.Dec.{ltb};
 ghost use lib.ListN.{getD};
 ghost use Rattle.ground.specs.Pick.{pick};
-ghost use Rattle.frame.specs.Description.{under, hinted};
+ghost use Rattle.frame.specs.Description.{under, hinted, hintAt};
 ghost use Rattle.frame.specs.Distances.{seven};
 ghost use Rattle.frame.specs.Mfmv.{far, towards, offset, refToRef, mfmvOf, idle, selectable, wellCur, wellMfmv};
 
@@ -67,34 +67,36 @@ fn offset_of(z: i16) -> u8
     magnitude(z) as u8
 }
 
-fn ref2ref(d: Description, r: usize, m: usize) -> u8
-    requires { ⌜ (hinted d ≡ true) × (r < 7) × (m < 7) ⌝ }
+// here is the hint of reference r, held what the references' own frames held.
+fn ref2ref(d: Description, held: &[u8], here: u32, r: usize, m: usize) -> u8
+    requires { ⌜ (hinted d ≡ true) × (now held ≡ d .«hints_by_ref») × (here ≡ hintAt d r) × (r < 7) × (m < 7) ⌝ }
     ensures { λ a. ⌜ a ≡ refToRef d r m ⌝ }
 {
-    offset_of(get_poc_diff(d.hint_bits, hint(d, r), held(d, r, m)))
+    offset_of(get_poc_diff(d.hint_bits, here, held_in(held, r, m)))
 }
 
-fn refs2ref(d: Description, r: usize) -> [u8; 7]
-    requires { ⌜ (hinted d ≡ true) × (r < 7) ⌝ }
+fn refs2ref(d: Description, held: &[u8], here: u32, r: usize) -> [u8; 7]
+    requires { ⌜ (hinted d ≡ true) × (now held ≡ d .«hints_by_ref») × (here ≡ hintAt d r) × (r < 7) ⌝ }
     ensures { λ a. ⌜ a ≡ seven (refToRef d r) ⌝ }
 {
     [
-        ref2ref(d, r, 0),
-        ref2ref(d, r, 1),
-        ref2ref(d, r, 2),
-        ref2ref(d, r, 3),
-        ref2ref(d, r, 4),
-        ref2ref(d, r, 5),
-        ref2ref(d, r, 6),
+        ref2ref(d, held, here, r, 0),
+        ref2ref(d, held, here, r, 1),
+        ref2ref(d, held, here, r, 2),
+        ref2ref(d, held, here, r, 3),
+        ref2ref(d, held, here, r, 4),
+        ref2ref(d, held, here, r, 5),
+        ref2ref(d, held, here, r, 6),
     ]
 }
 
-fn mfmv_of(d: Description, reference: u8) -> Mfmv
-    requires { ⌜ (hinted d ≡ true) × (reference < 7) ⌝ }
+fn mfmv_of(d: Description, held: &[u8], reference: u8) -> Mfmv
+    requires { ⌜ (hinted d ≡ true) × (now held ≡ d .«hints_by_ref») × (reference < 7) ⌝ }
     ensures { λ r. ⌜ r ≡ mfmvOf d reference ⌝ }
 {
     let r = place(reference);
-    let there = from_current(d, hint(d, r));
+    let here = hint(d, r);
+    let there = from_current(d, here);
     let cur = toward_current(there, reference);
     if is_far(there) {
         return Mfmv {
@@ -106,7 +108,7 @@ fn mfmv_of(d: Description, reference: u8) -> Mfmv
     Mfmv {
         reference,
         ref2cur: cur,
-        ref2ref: refs2ref(d, r),
+        ref2ref: refs2ref(d, held, here, r),
     }
 }
 
@@ -127,14 +129,15 @@ pub(crate) fn idle_mfmv() -> Mfmv
     }
 }
 
-// Place i of a selection.
-pub(crate) fn slot(d: Description, s: Selection, i: usize) -> Mfmv
-    requires { ⌜ (hinted d ≡ true) × (i < 3) × (getD (s .refs) i 0 < 7) ⌝ }
+// Place i of a selection. held is lent beside the description that has it: an array is copied where
+// a byte of it is read, for each byte anew.
+pub(crate) fn slot(d: Description, held: &[u8], s: Selection, i: usize) -> Mfmv
+    requires { ⌜ (hinted d ≡ true) × (now held ≡ d .«hints_by_ref») × (i < 3) × (getD (s .refs) i 0 < 7) ⌝ }
     ensures { λ r. ⌜ r ≡ pick (ltb i (s .n)) (mfmvOf d (getD (s .refs) i 0)) idle ⌝ }
 {
     if i < s.n {
         let refs = s.refs;
-        return mfmv_of(d, refs[i]);
+        return mfmv_of(d, held, refs[i]);
     }
     idle_mfmv()
 }

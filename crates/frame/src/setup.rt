@@ -76,7 +76,12 @@ fn frame_of(d: Description, present: [u8; 7]) -> Frame
     );
     let refs = ref_hints(d);
     let s = select(d, present);
-    let mfmvs = [slot(d, s, 0), slot(d, s, 1), slot(d, s, 2)];
+    let held = d.hints_by_ref;
+    let mfmvs = [
+        slot(d, &held, s, 0),
+        slot(d, &held, s, 1),
+        slot(d, &held, s, 2),
+    ];
     Frame {
         sizes,
         use_ref_frame_mvs: flag(0 < s.n),

@@ -10,6 +10,7 @@ use native.Mathlib.Omega.{arith}
 use lib.Dec.{eqb}
 use lib.ListN.{getD}
 use borrow.Author.Tests.{lt-ltb, eqb-true}
+use Rattle.ground.specs.Pick.{pick}
 use Rattle.frame.specs.Sizes.{superblock}
 use Rattle.rows.specs.Table as tables
 use Rattle.rows.specs.declared.table.RowEntry.{RowEntry}
@@ -40,19 +41,22 @@ odd-rows n first stride (inl e) = rw e
 odd-rows n first stride (inr e) = rw e
 
 pub even-rows : (n first stride : ℕ) → (n ≡ 16) ⊎ (n ≡ 32)
-    → tables.plain n (tables.offsetOf n false) first stride ≡ tables.tableOf n false first stride
+    → tables.swaps (tables.plain n (tables.offsetOf n false) first stride) (tables.offsetOf n false) 0 ≡ tables.tableOf n false first stride
 unfolding tables.filled tables.plain tables.swaps tables.tab tables.tableOf tables.entryAt tables.placed tables.rowAt tables.rowOf tables.partner tables.offsetOf
 even-rows n first stride (inl e) = rw e
 even-rows n first stride (inr e) = rw e
 
--- the seams: what the callees ensure, put together
-pub odd-table : (n : ℕ) (odd : Bool) (first stride : ℕ) {off : ℕ} {p r : List RowEntry} → superblock n ≡ true → odd ≡ true
-    → off ≡ tables.offsetOf n odd → p ≡ tables.plain n off first stride → r ≡ tables.swaps p off n → r ≡ tables.tableOf n odd first stride
-odd-table n odd first stride s o e₁ e₂ e₃ = rw (e₃, e₂, e₁, o, odd-rows n first stride (sides n s))
+-- the seam: what the callees ensure, put together
+pub table : (n : ℕ) (odd : Bool) (first stride : ℕ) {off apart : ℕ} {p r : List RowEntry} → superblock n ≡ true
+    → off ≡ tables.offsetOf n odd → p ≡ tables.plain n off first stride → apart ≡ pick odd n 0 → r ≡ tables.swaps p off apart
+    → r ≡ tables.tableOf n odd first stride
+table n true first stride s e₁ e₂ e₃ e₄ = rw (e₄, e₃, e₂, e₁, odd-rows n first stride (sides n s))
+table n false first stride s e₁ e₂ e₃ e₄ = rw (e₄, e₃, e₂, e₁, even-rows n first stride (sides n s))
 
-pub even-table : (n : ℕ) (odd : Bool) (first stride : ℕ) {off : ℕ} {p : List RowEntry} → superblock n ≡ true → odd ≡ false
-    → off ≡ tables.offsetOf n odd → p ≡ tables.plain n off first stride → p ≡ tables.tableOf n odd first stride
-even-table n odd first stride s o e₁ e₂ = rw (e₂, e₁, o, even-rows n first stride (sides n s))
+-- entries that change places are the table's, wherever they stand apart
+pub apart-fits : (n : ℕ) (odd : Bool) {off apart : ℕ} → superblock n ≡ true → off ≡ tables.offsetOf n odd → apart ≡ pick odd n 0 → off + apart + 5 ≤ 37
+apart-fits n true s e f = omega (arith, off-fits n true s)
+apart-fits n false s e f = omega (arith, off-fits n false s)
 
 -- an entry of a table that is made by a rule
 pub tab-at : {A : Type 0} (f : ℕ → A) (d : A) (from n k : ℕ) → k < n → getD (tables.tab f from n) k d ≡ f (from + k)

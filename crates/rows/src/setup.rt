@@ -6,7 +6,7 @@ use cells::pos::Pos4;
 use frame::record::Frame;
 use frame::sizes::Sizes;
 ghost use mathlib.Core.Path.{_≡_};
-ghost use mathlib.Core.Bool.{true};
+ghost use mathlib.Core.Bool.{true, _&&_};
 ghost use Prim.Native.Nat.{min};
 ghost use Rattle.frame.specs.Sizes.{wellSizes};
 ghost use Rattle.rows.specs.Setup.{passStart, tableFor, cutTo, tileOf, ordered, inFrame, isPass, rowsAnswer, noTile, rowSetupOf};
@@ -66,6 +66,19 @@ pub fn in_frame(s: Sizes, tile: usize) -> bool
     s.part(tile) < s.tile_rows
 }
 
+// The ranges are in order and the tile row is one of the frame's.
+pub fn is_tile(s: Sizes, col: TileRange, row: TileRange, tile: usize) -> bool
+    ensures { λ r. ⌜ r ≡ (ordered col && ordered row && inFrame s tile) ⌝ }
+{
+    if !col.is_ordered() {
+        return false;
+    }
+    if !row.is_ordered() {
+        return false;
+    }
+    in_frame(s, tile)
+}
+
 pub fn admit(f: Frame, col: TileRange, row: TileRange, tile: usize, pass: usize) -> u8
     ensures { λ r. ⌜ r ≡ rowsAnswer f col row tile pass ⌝ }
 {
@@ -75,14 +88,8 @@ pub fn admit(f: Frame, col: TileRange, row: TileRange, tile: usize, pass: usize)
     if !f.well_formed() {
         return 1;
     }
-    if !col.is_ordered() {
-        return 3;
-    }
-    if !row.is_ordered() {
-        return 3;
-    }
     let s = f.sizes;
-    if in_frame(s, tile) { 0 } else { 3 }
+    if is_tile(s, col, row, tile) { 0 } else { 3 }
 }
 
 fn pass_start(s: Sizes, pass: usize) -> usize

@@ -4,6 +4,7 @@
 ghost use mathlib.Core.Path.{_≡_};
 ghost use Prim.Native.Nat.{_+_, _*_, _≤_, _<_, _^_};
 ghost use mathlib.Core.Bool.{true};
+ghost use Rattle.ground.specs.Pick.{pick};
 ghost use Rattle.frame.specs.Sizes.{superblock};
 ghost use Rattle.rows.specs.Table.{filled, swapped, swaps, plain, offsetOf, tableOf, placeAt};
 
@@ -90,16 +91,21 @@ fn swap_ends(rows: [RowEntry; 37], off: usize, sbsz: usize) -> [RowEntry; 37]
     swap(b, off + 4, off + sbsz + 4)
 }
 
+// How far apart the entries stand that change places: on an even row each stays where it is. A swap
+// that is always made leaves one table, one that is made at times would leave two to copy from.
+fn apart(sbsz: usize, odd: bool) -> usize
+    ensures { λ r. ⌜ r ≡ pick odd sbsz 0 ⌝ }
+{
+    if odd { sbsz } else { 0 }
+}
+
 pub(crate) fn table_of(sbsz: usize, odd: bool, first: usize, stride: usize) -> [RowEntry; 37]
     requires { ⌜ (superblock sbsz ≡ true) × (first + sbsz * stride + 2 * stride < 2 ^ 64) ⌝ }
     ensures { λ r. ⌜ r ≡ tableOf sbsz odd first stride ⌝ }
 {
     let off = offset(sbsz, odd);
     let t = unswapped(sbsz, off, first, stride);
-    if odd {
-        return swap_ends(t, off, sbsz);
-    }
-    t
+    swap_ends(t, off, apart(sbsz, odd))
 }
 
 // An entry's place; past the table there is none.

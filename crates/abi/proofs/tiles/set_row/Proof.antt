@@ -9,17 +9,17 @@ use borrow.Author.Needs.{needs}
 use Rattle.abi.proofs.tiles.set_row.Statement.{statement}
 use Rattle.abi.proofs.tiles.set_row.Tie as tie
 
-frame-at-requires : tie.Need-frame-at-requires
-frame-at-requires c κs = search needs
-
 admit-requires : tie.Need-admit-requires
 admit-requires c κs = search needs
 
 returns : tie.Need-returns
-returns c = let e = rw (c .before .before .frame-at .ensures) at (c .before .admit .ensures) in (e, run-refused _ _ _ (λ z. c .if1 .taken (e ∙ z)))
+returns c = let e = c .before .admit .ensures in (e, run-refused _ _ _ (λ z. c .if1 .taken (e ∙ z)))
+
+frame-at-requires : tie.Need-frame-at-requires
+frame-at-requires c κs = search needs
 
 tile-of-requires : tie.Need-tile-of-requires
-tile-of-requires c κs = sym (c .before .before .admit .ensures) ∙ c .before .if1 .left
+tile-of-requires c κs = rw (c .before .frame-at .ensures) (sym (c .before .before .before .admit .ensures) ∙ c .before .before .if1 .left)
 
 put-tile-requires : tie.Need-put-tile-requires
 put-tile-requires c κs = search needs
@@ -28,15 +28,15 @@ same-length : tie.Need-same-length
 same-length c = search needs
 
 returns-2 : tie.Need-returns-2
-returns-2 c = let a = c .before .before .before .before .before .before .before .before .before .before .args in let e = rw (c .before .before .before .before .before .before .before .frame-at .ensures) at (c .before .before .before .before .before .before .admit .ensures) in (e, written _ _ _ (sym e ∙ c .before .before .before .before .before .if1 .left) (c .before .before .put-tile .ensures ∙ ap (λ t. put (a .tile .now) 0 (tileBytes t)) (rw (c .before .before .before .before .before .before .before .frame-at .ensures) at (c .before .before .before .tile-of .ensures))))
+returns-2 c = let a = c .before .before .before .before .before .before .before .before .before .before .args in let e = c .before .before .before .before .before .before .before .admit .ensures in (e, written _ _ _ (sym e ∙ c .before .before .before .before .before .before .if1 .left) (c .before .before .put-tile .ensures ∙ ap (λ t. put (a .tile .now) 0 (tileBytes t)) (rw (c .before .before .before .before .before .frame-at .ensures) at (c .before .before .before .tile-of .ensures))))
 
 pub set-row-spec : {M : Type 1} → statement M
 set-row-spec =
     tie.close
     (tie.spec
-    frame-at-requires
     admit-requires
     returns
+    frame-at-requires
     tile-of-requires
     put-tile-requires
     same-length

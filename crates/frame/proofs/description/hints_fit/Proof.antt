@@ -17,19 +17,19 @@ returns-2 : tie.Need-returns-2
 unfolding hinted
 returns-2 c = rw (le-leb _ _ (c .before .before .if1 .left), ← c .before .hint-limit .ensures, le-ltb _ _ (c .if2 .taken))
 
-all-under-requires : tie.Need-all-under-requires
-all-under-requires c κs = search needs
+all-fit-requires : tie.Need-all-fit-requires
+all-fit-requires c κs = search needs
 
-all-under-requires-2 : tie.Need-all-under-requires-2
-all-under-requires-2 c κs = search needs
+all-fit-requires-2 : tie.Need-all-fit-requires-2
+all-fit-requires-2 c κs = search needs
 
 returns-3 : tie.Need-returns-3
 unfolding hinted
-returns-3 c = rw (le-leb _ _ (c .before .before .before .before .before .before .before .before .before .before .before .if1 .left), ← c .before .before .before .before .before .before .before .before .before .before .hint-limit .ensures, lt-ltb _ _ (c .before .before .before .before .before .before .before .before .before .if2 .left), ← c .before .before .before .before .before .all-under .ensures, c .before .before .before .before .if3 .taken, ← c .all-under2 .ensures)
+returns-3 c = rw (le-leb _ _ (c .before .before .before .before .before .before .before .before .before .before .before .if1 .left), ← c .before .before .before .before .before .all-fit .ensures, c .before .before .before .before .if3 .taken, ← c .all-fit2 .ensures, ← c .before .before .before .before .before .before .before .before .before .before .hint-limit .ensures, lt-ltb _ _ (c .before .before .before .before .before .before .before .before .before .if2 .left))
 
 returns-4 : tie.Need-returns-4
 unfolding hinted
-returns-4 c = rw (le-leb _ _ (c .before .before .before .before .before .before .before .if1 .left), ← c .before .before .before .before .before .before .hint-limit .ensures, lt-ltb _ _ (c .before .before .before .before .before .if2 .left), ← c .before .all-under .ensures, c .if3 .left)
+returns-4 c = rw (le-leb _ _ (c .before .before .before .before .before .before .before .if1 .left), ← c .before .all-fit .ensures, c .if3 .left, ← c .before .before .before .before .before .before .hint-limit .ensures, lt-ltb _ _ (c .before .before .before .before .before .if2 .left))
 
 pub hints-fit-spec : {M : Type 1} → statement M
 hints-fit-spec =
@@ -38,7 +38,7 @@ hints-fit-spec =
     returns
     hint-limit-requires
     returns-2
-    all-under-requires
-    all-under-requires-2
+    all-fit-requires
+    all-fit-requires-2
     returns-3
     returns-4)

@@ -20,30 +20,16 @@ returns-2 : tie.Need-returns-2
 unfolding rowsAnswer
 returns-2 c = rw (← c .before .before .before .is-pass .ensures, not-false (c .before .before .before .is-pass .result) (c .before .before .if1 .left), ← c .before .well-formed .ensures, not-true (c .before .well-formed .result) (c .if2 .taken))
 
-is-ordered-requires : tie.Need-is-ordered-requires
-is-ordered-requires c κs = search needs
+is-tile-requires : tie.Need-is-tile-requires
+is-tile-requires c κs = search needs
 
 returns-3 : tie.Need-returns-3
 unfolding rowsAnswer
-returns-3 c = rw (← c .before .before .before .before .before .is-pass .ensures, not-false (c .before .before .before .before .before .is-pass .result) (c .before .before .before .before .if1 .left), ← c .before .before .before .well-formed .ensures, not-false (c .before .before .before .well-formed .result) (c .before .before .if2 .left), ← c .before .is-ordered .ensures, not-true (c .before .is-ordered .result) (c .if3 .taken))
-
-is-ordered-requires-2 : tie.Need-is-ordered-requires-2
-is-ordered-requires-2 c κs = search needs
+returns-3 c = rw (← c .before .before .before .before .before .before .is-pass .ensures, not-false (c .before .before .before .before .before .before .is-pass .result) (c .before .before .before .before .before .if1 .left), ← c .before .before .before .before .well-formed .ensures, not-false (c .before .before .before .before .well-formed .result) (c .before .before .before .if2 .left), ← c .before .is-tile .ensures, c .if3 .taken)
 
 returns-4 : tie.Need-returns-4
 unfolding rowsAnswer
-returns-4 c = rw (← c .before .before .before .before .before .before .before .is-pass .ensures, not-false (c .before .before .before .before .before .before .before .is-pass .result) (c .before .before .before .before .before .before .if1 .left), ← c .before .before .before .before .before .well-formed .ensures, not-false (c .before .before .before .before .before .well-formed .result) (c .before .before .before .before .if2 .left), ← c .before .before .before .is-ordered .ensures, not-false (c .before .before .before .is-ordered .result) (c .before .before .if3 .left), ← c .before .is-ordered2 .ensures, not-true (c .before .is-ordered2 .result) (c .if4 .taken))
-
-in-frame-requires : tie.Need-in-frame-requires
-in-frame-requires c κs = search needs
-
-returns-5 : tie.Need-returns-5
-unfolding rowsAnswer
-returns-5 c = rw (← c .before .before .before .before .before .before .before .before .before .before .is-pass .ensures, not-false (c .before .before .before .before .before .before .before .before .before .before .is-pass .result) (c .before .before .before .before .before .before .before .before .before .if1 .left), ← c .before .before .before .before .before .before .before .before .well-formed .ensures, not-false (c .before .before .before .before .before .before .before .before .well-formed .result) (c .before .before .before .before .before .before .before .if2 .left), ← c .before .before .before .before .before .before .is-ordered .ensures, not-false (c .before .before .before .before .before .before .is-ordered .result) (c .before .before .before .before .before .if3 .left), ← c .before .before .before .before .is-ordered2 .ensures, not-false (c .before .before .before .before .is-ordered2 .result) (c .before .before .before .if4 .left), ← c .before .in-frame .ensures, c .if5 .taken)
-
-returns-6 : tie.Need-returns-6
-unfolding rowsAnswer
-returns-6 c = rw (← c .before .before .before .before .before .before .before .before .before .before .is-pass .ensures, not-false (c .before .before .before .before .before .before .before .before .before .before .is-pass .result) (c .before .before .before .before .before .before .before .before .before .if1 .left), ← c .before .before .before .before .before .before .before .before .well-formed .ensures, not-false (c .before .before .before .before .before .before .before .before .well-formed .result) (c .before .before .before .before .before .before .before .if2 .left), ← c .before .before .before .before .before .before .is-ordered .ensures, not-false (c .before .before .before .before .before .before .is-ordered .result) (c .before .before .before .before .before .if3 .left), ← c .before .before .before .before .is-ordered2 .ensures, not-false (c .before .before .before .before .is-ordered2 .result) (c .before .before .before .if4 .left), ← c .before .in-frame .ensures, c .if5 .left)
+returns-4 c = rw (← c .before .before .before .before .before .before .is-pass .ensures, not-false (c .before .before .before .before .before .before .is-pass .result) (c .before .before .before .before .before .if1 .left), ← c .before .before .before .before .well-formed .ensures, not-false (c .before .before .before .before .well-formed .result) (c .before .before .before .if2 .left), ← c .before .is-tile .ensures, c .if3 .left)
 
 pub admit-spec : {M : Type 1} → statement M
 admit-spec =
@@ -53,10 +39,6 @@ admit-spec =
     returns
     well-formed-requires
     returns-2
-    is-ordered-requires
+    is-tile-requires
     returns-3
-    is-ordered-requires-2
-    returns-4
-    in-frame-requires
-    returns-5
-    returns-6)
+    returns-4)

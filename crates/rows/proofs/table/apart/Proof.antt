@@ -1,0 +1,13 @@
+-- `rows::table::apart` meets its contract.
+-- Assumes nothing.
+use Rattle.rows.proofs.table.apart.Statement.{statement}
+use Rattle.rows.proofs.table.apart.Tie as tie
+
+returns : tie.Need-returns
+returns c = rw (c .if1 .taken)
+
+returns-2 : tie.Need-returns-2
+returns-2 c = rw (c .if1 .left)
+
+pub apart-spec : {M : Type 1} → statement M
+apart-spec = tie.close (tie.spec returns returns-2)
