@@ -6,7 +6,7 @@ use frame::description::Description;
 use frame::record::Listed;
 use frame::record::check;
 use frame::record::listed_sizes;
-use frame::setup::init_frame;
+use frame::setup::init_lent;
 use ground::write::put_sizes;
 ghost use mathlib.Core.Path.{_≡_};
 ghost use Prim.Native.Nat.{_≤_};
@@ -71,12 +71,12 @@ fn init_lacks(hints: usize, hints_by_ref: usize, present: usize, frame: usize) -
     frame < FRAME
 }
 
-fn set_up(d: Description, present: [u8; 7], frame: &mut [u8]) -> u8
-    requires { ⌜ 109 ≤ length (now frame) ⌝ }
+fn set_up(d: Description, held: &[u8], present: [u8; 7], frame: &mut [u8]) -> u8
+    requires { ⌜ (now held ≡ d .«hints_by_ref») × (109 ≤ length (now frame)) ⌝ }
     ensures { λ r. ⌜ r ≡ setupAnswer d present ⌝ }
     ensures { λ _. ⌜ now (frame .exit) ≡ run (accepted (setupAnswer d present) (whole (frameBytes (frameOf d present)))) (now (frame .entry)) ⌝ }
 {
-    let made = init_frame(d, present);
+    let made = init_lent(d, held, present);
     let answer = made.answer;
     if answer != 0 {
         return answer;
@@ -111,7 +111,7 @@ pub extern "C" fn jaskkovir_init_frame(
         return 4;
     }
     let hints = seven(hints);
-    let hints_by_ref = forty_nine(hints_by_ref);
+    let held = forty_nine(hints_by_ref);
     let d = Description {
         width,
         height,
@@ -119,13 +119,13 @@ pub extern "C" fn jaskkovir_init_frame(
         hint_bits,
         current_hint,
         hints,
-        hints_by_ref,
+        hints_by_ref: held,
         tile_rows,
         tile_threads,
         frame_threads,
         temporal,
     };
-    set_up(d, seven(present), frame)
+    set_up(d, &hints_by_ref[..HINTS_BY_REF], seven(present), frame)
 }
 
 // Whether bytes that come back are a record that setup can give.

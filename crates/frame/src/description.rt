@@ -75,7 +75,9 @@ fn all_fit(xs: &[u8], bits: u32) -> bool
     wide(together) < hint_limit(bits)
 }
 
-fn hints_fit(d: Description) -> bool
+// held is d.hints_by_ref, as in `setup::init_lent`.
+fn hints_fit(d: Description, held: &[u8]) -> bool
+    requires { ⌜ now held ≡ d .«hints_by_ref» ⌝ }
     ensures { λ r. ⌜ r ≡ hinted d ⌝ }
 {
     if 8 < d.hint_bits {
@@ -85,13 +87,14 @@ fn hints_fit(d: Description) -> bool
         return false;
     }
     if all_fit(&d.hints, d.hint_bits) {
-        return all_fit(&d.hints_by_ref, d.hint_bits);
+        return all_fit(held, d.hint_bits);
     }
     false
 }
 
 // The answer of frame setup: 1, 2 or 0.
-pub(crate) fn admit(d: Description, present: [u8; 7]) -> u8
+pub(crate) fn admit(d: Description, held: &[u8], present: [u8; 7]) -> u8
+    requires { ⌜ now held ≡ d .«hints_by_ref» ⌝ }
     ensures { λ r. ⌜ r ≡ setupAnswer d present ⌝ }
 {
     if !limited(
@@ -106,7 +109,7 @@ pub(crate) fn admit(d: Description, present: [u8; 7]) -> u8
     if !flags_fit(d, present) {
         return 1;
     }
-    if hints_fit(d) { 0 } else { 2 }
+    if hints_fit(d, held) { 0 } else { 2 }
 }
 
 // A reference's hint.

@@ -62,8 +62,8 @@ fn no_frame() -> Frame
     }
 }
 
-fn frame_of(d: Description, present: [u8; 7]) -> Frame
-    requires { ⌜ setupAnswer d present ≡ 0 ⌝ }
+fn frame_of(d: Description, held: &[u8], present: [u8; 7]) -> Frame
+    requires { ⌜ (setupAnswer d present ≡ 0) × (now held ≡ d .«hints_by_ref») ⌝ }
     ensures { λ r. ⌜ r ≡ frameOf d present ⌝ }
 {
     let sizes = sizes_of(
@@ -76,11 +76,10 @@ fn frame_of(d: Description, present: [u8; 7]) -> Frame
     );
     let refs = ref_hints(d);
     let s = select(d, present);
-    let held = d.hints_by_ref;
     let mfmvs = [
-        slot(d, &held, s, 0),
-        slot(d, &held, s, 1),
-        slot(d, &held, s, 2),
+        slot(d, held, s, 0),
+        slot(d, held, s, 1),
+        slot(d, held, s, 2),
     ];
     Frame {
         sizes,
@@ -92,14 +91,23 @@ fn frame_of(d: Description, present: [u8; 7]) -> Frame
     }
 }
 
-pub fn init_frame(d: Description, present: [u8; 7]) -> Setup
+// As init_frame. held is d.hints_by_ref, lent: one who has those bytes elsewhere has them read there,
+// and makes no copy of them.
+pub fn init_lent(d: Description, held: &[u8], present: [u8; 7]) -> Setup
+    requires { ⌜ now held ≡ d .«hints_by_ref» ⌝ }
     ensures { λ r. ⌜ r ≡ setupOf d present ⌝ }
 {
-    let answer = admit(d, present);
+    let answer = admit(d, held, present);
     if answer != 0 {
         let frame = no_frame();
         return Setup { answer, frame };
     }
-    let frame = frame_of(d, present);
+    let frame = frame_of(d, held, present);
     Setup { answer, frame }
+}
+
+pub fn init_frame(d: Description, present: [u8; 7]) -> Setup
+    ensures { λ r. ⌜ r ≡ setupOf d present ⌝ }
+{
+    init_lent(d, &d.hints_by_ref, present)
 }

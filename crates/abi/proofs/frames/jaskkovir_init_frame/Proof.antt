@@ -1,7 +1,8 @@
 -- `abi::frames::jaskkovir_init_frame` meets its contract.
 -- Assumes nothing.
 use mathlib.Core.Path.{sym, _∙_}
-use lib.ListN.{length}
+use native.Mathlib.Omega.{arith}
+use lib.ListN.{length, length-take}
 use Rattle.abi.specs.Framed.{described, initAnswer, initScript}
 use Rattle.abi.proofs.Lent.{enough, refused-short, answered}
 use borrow.Author.Needs.{needs}
@@ -21,18 +22,21 @@ seven-requires c κs = let a = c .before .before .before .before .before .before
 forty-nine-requires : tie.Need-forty-nine-requires
 forty-nine-requires c κs = let a = c .before .before .before .before .before .before .before .args in let t = enough (length (a .hints .now)) (length (a .hints-by-ref .now)) (length (a .present .now)) (length (a .frame .now)) (sym (c .before .before .init-lacks .ensures) ∙ c .before .if1 .left) in t .held
 
+slice-aggregate-set-up : tie.Need-slice-aggregate-set-up
+slice-aggregate-set-up c = let a = c .before .before .before .before .before .before .before .before .before .args in let t = enough (length (a .hints .now)) (length (a .hints-by-ref .now)) (length (a .present .now)) (length (a .frame .now)) (sym (c .before .before .before .before .init-lacks .ensures) ∙ c .before .before .before .if1 .left) in simp length-take (omega (arith, t .held))
+
 seven-requires-2 : tie.Need-seven-requires-2
-seven-requires-2 c κs = let a = c .before .before .before .before .before .before .before .before .args in let t = enough (length (a .hints .now)) (length (a .hints-by-ref .now)) (length (a .present .now)) (length (a .frame .now)) (sym (c .before .before .before .init-lacks .ensures) ∙ c .before .before .if1 .left) in t .present
+seven-requires-2 c κs = let a = c .before .before .before .before .before .before .before .before .before .args in let t = enough (length (a .hints .now)) (length (a .hints-by-ref .now)) (length (a .present .now)) (length (a .frame .now)) (sym (c .before .before .before .before .init-lacks .ensures) ∙ c .before .before .before .if1 .left) in t .present
 
 set-up-requires : tie.Need-set-up-requires
-set-up-requires c κs = let a = c .before .before .before .before .before .before .before .before .before .before .args in let t = enough (length (a .hints .now)) (length (a .hints-by-ref .now)) (length (a .present .now)) (length (a .frame .now)) (sym (c .before .before .before .before .before .init-lacks .ensures) ∙ c .before .before .before .before .if1 .left) in t .frame
+set-up-requires c κs = let a = c .before .before .before .before .before .before .before .before .before .before .before .args in let t = enough (length (a .hints .now)) (length (a .hints-by-ref .now)) (length (a .present .now)) (length (a .frame .now)) (sym (c .before .before .before .before .before .before .init-lacks .ensures) ∙ c .before .before .before .before .before .if1 .left) in (sym (c .before .before .before .forty-nine .ensures), t .frame)
 
 same-length : tie.Need-same-length
 same-length c = search needs
 
 returns-2 : tie.Need-returns-2
 unfolding initAnswer initScript described
-returns-2 c = rw (← c .before .before .before .before .seven2 .ensures, ← c .before .before .before .before .before .forty-nine .ensures, ← c .before .before .before .before .before .before .seven .ensures) (answered _ _ _ _ (sym (c .before .before .before .before .before .before .before .before .init-lacks .ensures) ∙ c .before .before .before .before .before .before .before .if1 .left) (c .before .before .set-up .ensures .0) (c .before .before .set-up .ensures .1))
+returns-2 c = rw (← c .before .before .before .before .seven2 .ensures, ← c .before .before .before .before .before .before .forty-nine .ensures, ← c .before .before .before .before .before .before .before .seven .ensures) (answered _ _ _ _ (sym (c .before .before .before .before .before .before .before .before .before .init-lacks .ensures) ∙ c .before .before .before .before .before .before .before .before .if1 .left) (c .before .before .set-up .ensures .0) (c .before .before .set-up .ensures .1))
 
 pub jaskkovir-init-frame-spec : {M : Type 1} → statement M
 jaskkovir-init-frame-spec =
@@ -42,6 +46,7 @@ jaskkovir-init-frame-spec =
     returns
     seven-requires
     forty-nine-requires
+    slice-aggregate-set-up
     seven-requires-2
     set-up-requires
     same-length

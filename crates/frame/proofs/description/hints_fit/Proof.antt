@@ -25,7 +25,7 @@ all-fit-requires-2 c κs = search needs
 
 returns-3 : tie.Need-returns-3
 unfolding hinted
-returns-3 c = rw (le-leb _ _ (c .before .before .before .before .before .before .before .before .before .before .before .if1 .left), ← c .before .before .before .before .before .all-fit .ensures, c .before .before .before .before .if3 .taken, ← c .all-fit2 .ensures, ← c .before .before .before .before .before .before .before .before .before .before .hint-limit .ensures, lt-ltb _ _ (c .before .before .before .before .before .before .before .before .before .if2 .left))
+returns-3 c = rw (le-leb _ _ (c .before .before .before .before .before .before .before .before .if1 .left), ← c .before .before .all-fit .ensures, c .before .if3 .taken, ← c .before .before .before .before .before .before .before .before .before .before .pre, ← c .all-fit2 .ensures, ← c .before .before .before .before .before .before .before .hint-limit .ensures, lt-ltb _ _ (c .before .before .before .before .before .before .if2 .left))
 
 returns-4 : tie.Need-returns-4
 unfolding hinted

@@ -1,6 +1,5 @@
 -- `frame::setup::frame_of` meets its contract.
 -- Assumes nothing.
-use mathlib.Core.Path.{refl}
 use native.Mathlib.Omega.{arith}
 use Rattle.frame.proofs.Described.{accepted-limits, accepted-hints}
 use Rattle.frame.proofs.Selections.{slot-fits}
@@ -15,38 +14,29 @@ sbsz-of-requires : tie.Need-sbsz-of-requires
 sbsz-of-requires c κs = search needs
 
 sizes-of-requires : tie.Need-sizes-of-requires
-sizes-of-requires c κs = accepted-limits _ _ (c .before .pre)
+sizes-of-requires c κs = accepted-limits _ _ (c .before .before .pre .0)
 
 ref-hints-requires : tie.Need-ref-hints-requires
-ref-hints-requires c κs = accepted-hints _ _ (c .before .before .pre)
+ref-hints-requires c κs = accepted-hints _ _ (c .before .before .before .pre .0)
 
 select-requires : tie.Need-select-requires
-select-requires c κs = accepted-hints _ _ (c .before .before .before .pre)
-
-slice-aggregate-slot : tie.Need-slice-aggregate-slot
-slice-aggregate-slot c = let g = c .before .before .before .before .before .before .good .0 in search needs
+select-requires c κs = accepted-hints _ _ (c .before .before .before .before .pre .0)
 
 slot-requires : tie.Need-slot-requires
-slot-requires c κs = let s = c .before .before .before .before .before .before in (accepted-hints _ _ (s .pre), refl, omega arith, slot-fits (s .args .d) (s .args .present) 0 (c .before .before .select .ensures) (omega arith))
-
-slice-aggregate-slot-2 : tie.Need-slice-aggregate-slot-2
-slice-aggregate-slot-2 c = let g = c .before .before .before .before .before .before .before .before .good .0 in search needs
+slot-requires c κs = let s = c .before .before .before .before .before in (accepted-hints _ _ (s .pre .0), s .pre .1, omega arith, slot-fits (s .args .d) (s .args .present) 0 (c .select .ensures) (omega arith))
 
 slot-requires-2 : tie.Need-slot-requires-2
-slot-requires-2 c κs = let s = c .before .before .before .before .before .before .before .before in (accepted-hints _ _ (s .pre), refl, omega arith, slot-fits (s .args .d) (s .args .present) 1 (c .before .before .before .before .select .ensures) (omega arith))
-
-slice-aggregate-slot-3 : tie.Need-slice-aggregate-slot-3
-slice-aggregate-slot-3 c = let g = c .before .before .before .before .before .before .before .before .before .before .good .0 in search needs
+slot-requires-2 c κs = let s = c .before .before .before .before .before .before in (accepted-hints _ _ (s .pre .0), s .pre .1, omega arith, slot-fits (s .args .d) (s .args .present) 1 (c .before .select .ensures) (omega arith))
 
 slot-requires-3 : tie.Need-slot-requires-3
-slot-requires-3 c κs = let s = c .before .before .before .before .before .before .before .before .before .before in (accepted-hints _ _ (s .pre), refl, omega arith, slot-fits (s .args .d) (s .args .present) 2 (c .before .before .before .before .before .before .select .ensures) (omega arith))
+slot-requires-3 c κs = let s = c .before .before .before .before .before .before .before in (accepted-hints _ _ (s .pre .0), s .pre .1, omega arith, slot-fits (s .args .d) (s .args .present) 2 (c .before .before .select .ensures) (omega arith))
 
 flag-requires : tie.Need-flag-requires
 flag-requires c κs = search needs
 
 returns : tie.Need-returns
 unfolding frameOf slotOf asSelection
-returns c = rw (c .before .before .before .before .before .before .before .before .before .before .before .sizes-of .ensures, c .before .before .before .before .before .before .before .before .before .before .before .before .sbsz-of .ensures, c .before .before .before .before .before .before .before .before .before .before .ref-hints .ensures, c .flag .ensures, c .before .before .slot3 .ensures, c .before .before .before .before .slot2 .ensures, c .before .before .before .before .before .before .slot .ensures, c .before .before .before .before .before .before .before .before .before .select .ensures)
+returns c = rw (c .before .before .before .before .before .before .before .sizes-of .ensures, c .before .before .before .before .before .before .before .before .sbsz-of .ensures, c .before .before .before .before .before .before .ref-hints .ensures, c .flag .ensures, c .before .before .slot3 .ensures, c .before .before .before .slot2 .ensures, c .before .before .before .before .slot .ensures, c .before .before .before .before .before .select .ensures)
 
 pub frame-of-spec : {M : Type 1} → statement M
 frame-of-spec =
@@ -56,11 +46,8 @@ frame-of-spec =
     sizes-of-requires
     ref-hints-requires
     select-requires
-    slice-aggregate-slot
     slot-requires
-    slice-aggregate-slot-2
     slot-requires-2
-    slice-aggregate-slot-3
     slot-requires-3
     flag-requires
     returns)
