@@ -79,7 +79,7 @@ pub fn is_tile(s: Sizes, col: TileRange, row: TileRange, tile: usize) -> bool
     in_frame(s, tile)
 }
 
-pub fn admit(f: Frame, col: TileRange, row: TileRange, tile: usize, pass: usize) -> u8
+fn admit(f: Frame, col: TileRange, row: TileRange, tile: usize, pass: usize) -> u8
     ensures { λ r. ⌜ r ≡ rowsAnswer f col row tile pass ⌝ }
 {
     if !is_pass(pass) {
