@@ -1,6 +1,5 @@
 -- `frame::description::held_in` meets its contract.
 -- Assumes nothing.
-use native.Mathlib.Omega.{arith}
 use borrow.Author.Needs.{needs}
 use Rattle.frame.proofs.description.held_in.Statement.{statement}
 use Rattle.frame.proofs.description.held_in.Tie as tie
