@@ -13,7 +13,6 @@ use oracle::paper;
 use oracle::paper::FrameRecord;
 use oracle::save;
 use oracle::save::Place;
-use oracle::Window;
 use shared::split_mix::SplitMix64;
 
 const CELL_LEN: usize = 5;
@@ -60,13 +59,13 @@ impl Desk {
         let records = layout::blocks(random, &record, MORE);
         let rust_fields = std::array::from_fn(|at: usize| Some(&fields[at][..listed]));
         let whole = &records[..records.len() - MORE];
-        let Place { window, .. } = NOWHERE;
+        let Place { window, .. } = Place::NOWHERE;
         let wanted = Written { projection, saved };
         let [before, field] = [&wanted.projection[..projected], &wanted.saved[..listed]];
         Self {
             frame: codec::frame_bytes(&record),
             load: load::Prepared::on_record(&record, &window, rust_fields, before),
-            save: save::Prepared::on_record(&record, &NOWHERE, whole, field),
+            save: save::Prepared::on_record(&record, &Place::NOWHERE, whole, field),
             record,
             fields,
             records,
@@ -135,15 +134,3 @@ impl Desk {
         }
     }
 }
-
-const NOWHERE: Place = Place {
-    window: Window {
-        tile_row: 0,
-        col_start: 0,
-        col_end: 0,
-        row_start: 0,
-        row_end: 0,
-    },
-    superblock_row: 0,
-    pass: 1,
-};

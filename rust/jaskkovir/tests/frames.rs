@@ -1,5 +1,8 @@
 //! A frame, a row and a splat, and their refusals.
 
+mod common;
+
+use common::WORKED;
 use jaskkovir::calls;
 use jaskkovir::calls::Block;
 use jaskkovir::calls::Description;
@@ -8,21 +11,6 @@ use jaskkovir::refusal;
 use jaskkovir::Frame;
 use jaskkovir::Listed;
 use jaskkovir::Tile;
-
-/// Document 01's worked frame.
-const WORKED: Description = Description {
-    width: 64,
-    height: 64,
-    sb128: 0,
-    hint_bits: 3,
-    current_hint: 2,
-    hints: &[1; 7],
-    hints_by_ref: &[0; 49],
-    tile_rows: 1,
-    tile_threads: 1,
-    frame_threads: 1,
-    temporal: 1,
-};
 
 const ROW: Row = Row {
     col_start: 0,

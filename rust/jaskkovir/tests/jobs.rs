@@ -1,6 +1,8 @@
 //! A batch of one load, and its refusals.
 
-use jaskkovir::calls::Description;
+mod common;
+
+use common::WORKED;
 use jaskkovir::jobs::admit;
 use jaskkovir::jobs::step;
 use jaskkovir::jobs::Sources;
@@ -10,21 +12,6 @@ use jaskkovir::tmvs::load_tmvs;
 use jaskkovir::tmvs::Window;
 use jaskkovir::Frame;
 use jaskkovir::Job;
-
-/// Document 01's worked frame: 16 cells in a row, of which it has 8.
-const WORKED: Description = Description {
-    width: 64,
-    height: 64,
-    sb128: 0,
-    hint_bits: 3,
-    current_hint: 2,
-    hints: &[1; 7],
-    hints_by_ref: &[0; 49],
-    tile_rows: 1,
-    tile_threads: 1,
-    frame_threads: 1,
-    temporal: 1,
-};
 
 const STRIDE: usize = 16;
 

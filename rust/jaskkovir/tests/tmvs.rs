@@ -1,7 +1,9 @@
 //! A save and a load, and their refusals.
 
+mod common;
+
+use common::WORKED;
 use jaskkovir::calls::Block;
-use jaskkovir::calls::Description;
 use jaskkovir::calls::Row;
 use jaskkovir::refusal;
 use jaskkovir::tmvs::load_tmvs;
@@ -9,21 +11,6 @@ use jaskkovir::tmvs::save_tmvs;
 use jaskkovir::tmvs::Saving;
 use jaskkovir::tmvs::Window;
 use jaskkovir::Frame;
-
-/// Document 01's worked frame: 16 cells in a row, of which it has 8.
-const WORKED: Description = Description {
-    width: 64,
-    height: 64,
-    sb128: 0,
-    hint_bits: 3,
-    current_hint: 2,
-    hints: &[1; 7],
-    hints_by_ref: &[0; 49],
-    tile_rows: 1,
-    tile_threads: 1,
-    frame_threads: 1,
-    temporal: 1,
-};
 
 const STRIDE: usize = 16;
 

@@ -26,6 +26,19 @@ pub struct Place {
 }
 
 impl Place {
+    /// No cell, for buffers that are made before a place is known.
+    pub const NOWHERE: Self = Self {
+        window: Window {
+            tile_row: 0,
+            col_start: 0,
+            col_end: 0,
+            row_start: 0,
+            row_end: 0,
+        },
+        superblock_row: 0,
+        pass: 1,
+    };
+
     /// The window's numbers, then the superblock row and the pass.
     pub fn numbers(&self) -> [u32; 7] {
         let [tile_row, col_start, col_end, row_start, row_end] = self.window.numbers();

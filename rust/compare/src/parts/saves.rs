@@ -73,7 +73,7 @@ impl Run {
         Self {
             record,
             frame: codec::frame_bytes(&record),
-            rust: Prepared::on_record(&record, &NOWHERE, whole, &wanted[..listed]),
+            rust: Prepared::on_record(&record, &Place::NOWHERE, whole, &wanted[..listed]),
             records,
             ours: wanted.clone(),
             wanted,
@@ -203,18 +203,6 @@ impl Run {
         });
     }
 }
-
-const NOWHERE: Place = Place {
-    window: oracle::Window {
-        tile_row: 0,
-        col_start: 0,
-        col_end: 0,
-        row_start: 0,
-        row_end: 0,
-    },
-    superblock_row: 0,
-    pass: 1,
-};
 
 /// For the paper. Of a far superblock row only the parity counts.
 fn cut_place(saving: &Saving) -> Place {
