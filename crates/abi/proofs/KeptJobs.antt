@@ -32,7 +32,7 @@ use Rattle.abi.specs.Moved.{area, loadLacks}
 use Rattle.abi.specs.JobBytes.{jobFrom, jobIn, jobsIn, placeIn, batchIn}
 use Rattle.abi.specs.Batched.{handedIn, donePatch, steppedNumber, steppedJobs}
 use Rattle.abi.proofs.LentJobs.{Named, inside, names-job, job-there}
-use Rattle.abi.proofs.Places.{tab-length}
+use Rattle.layout.proofs.Places.{tab-length}
 
 -- A job by its bytes: those before its steps done, and the steps done.
 module _ (l m : List ℕ) (i : ℕ) where

@@ -8,7 +8,7 @@ use Rattle.ground.specs.Pick.{pick}
 use Rattle.ground.specs.Script.{Patch}
 use Rattle.jobs.specs.Admit.{Handed, handed, batchAnswer}
 use Rattle.jobs.specs.Step.{turnNumber, turnProj, turnSaved}
-use Rattle.abi.specs.FrameBytes.{frameAt}
+use Rattle.layout.specs.FrameBytes.{frameAt}
 use Rattle.abi.specs.Moved.{loadLacks}
 use Rattle.abi.specs.JobBytes.{jobIn, batchIn}
 

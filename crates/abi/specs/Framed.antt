@@ -12,7 +12,7 @@ use Rattle.frame.specs.declared.description.Description.{Description}
 use Rattle.frame.specs.declared.record.Listed.{Listed}
 use Rattle.frame.specs.Description.{setupAnswer}
 use Rattle.frame.specs.Record.{frameOf, checkAnswer, listedOf}
-use Rattle.abi.specs.FrameBytes.{frameAt, frameBytes}
+use Rattle.layout.specs.FrameBytes.{frameAt, frameBytes}
 
 -- bytes over the start of a lent part
 abbrev pub whole : List ℕ → List Patch

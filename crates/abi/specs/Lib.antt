@@ -1,8 +1,6 @@
 -- What the exported functions answer and leave in the lent bytes.
 pub mod Leaf
-pub mod FrameBytes
 pub mod Framed
-pub mod TileBytes
 pub mod Tiled
 pub mod Moved
 pub mod JobBytes

@@ -9,7 +9,7 @@ use Rattle.ground.specs.Script.{Patch}
 use Rattle.saving.specs.declared.area.Area.{Area}
 use Rattle.saving.specs.Save.{saveAnswer, saveScript}
 use Rattle.loading.specs.Load.{loadAnswer, loadScript}
-use Rattle.abi.specs.FrameBytes.{frameAt}
+use Rattle.layout.specs.FrameBytes.{frameAt}
 use Rattle.abi.specs.Framed.{shortFrame}
 
 -- columns left to before right and rows top to before bottom of a tile row

@@ -12,8 +12,8 @@ use Rattle.rows.specs.declared.setup.TileRange.{TileRange}
 use Rattle.rows.specs.declared.splat.Splat.{Splat}
 use Rattle.rows.specs.Setup.{tileOf, rowsAnswer}
 use Rattle.rows.specs.Splat.{splatAnswer, splatScript}
-use Rattle.abi.specs.FrameBytes.{frameAt}
-use Rattle.abi.specs.TileBytes.{tileAt, tileBytes}
+use Rattle.layout.specs.FrameBytes.{frameAt}
+use Rattle.layout.specs.TileBytes.{tileAt, tileBytes}
 use Rattle.abi.specs.Framed.{whole, shortFrame}
 
 -- a tile and a record, in bytes

@@ -1,13 +1,13 @@
 // Frame setup, the check of a record and the listed sizes, on lent bytes.
-use crate::frame_bytes::FRAME;
-use crate::frame_bytes::frame_at;
-use crate::frame_bytes::put_frame;
 use frame::description::Description;
 use frame::record::Listed;
 use frame::record::check;
 use frame::record::listed_sizes;
 use frame::setup::init_lent;
 use ground::write::put_sizes;
+use layout::frame_bytes::FRAME;
+use layout::frame_bytes::frame_at;
+use layout::frame_bytes::put_frame;
 ghost use mathlib.Core.Path.{_≡_};
 ghost use Prim.Native.Nat.{_≤_};
 ghost use lib.ListN.{length, take};
@@ -16,7 +16,7 @@ ghost use Rattle.ground.specs.Put.{put};
 ghost use Rattle.ground.specs.Script.{run};
 ghost use Rattle.frame.specs.Description.{setupAnswer};
 ghost use Rattle.frame.specs.Record.{frameOf};
-ghost use Rattle.abi.specs.FrameBytes.{frameBytes};
+ghost use Rattle.layout.specs.FrameBytes.{frameBytes};
 ghost use Rattle.abi.specs.Framed.{whole, described, initLacks, initAnswer, initScript, checked, listedBytes, listedAnswer, listedScript};
 
 const HINTS: usize = 7;

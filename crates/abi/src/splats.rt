@@ -1,11 +1,11 @@
 // A splat on lent bytes. Frame and tile are read where they stand, and of the tile's 37 entries only
 // those of the block's rows.
-use crate::frame_bytes::sizes_at;
-use crate::frame_bytes::well_frame;
-use crate::tile_bytes::columns_at;
-use crate::tile_bytes::place_in;
-use crate::tile_bytes::rows_at;
 use cells::block::Block;
+use layout::frame_bytes::sizes_at;
+use layout::frame_bytes::well_frame;
+use layout::tile_bytes::columns_at;
+use layout::tile_bytes::place_in;
+use layout::tile_bytes::rows_at;
 use rows::splat::Splat;
 use rows::splat::first_entry;
 use rows::splat::is_placeable;
@@ -16,8 +16,8 @@ ghost use Prim.Native.Nat.{_+_, _/_, _^_, _≤_, _<_};
 ghost use lib.ListN.{length};
 ghost use Rattle.ground.specs.Script.{run};
 ghost use Rattle.rows.specs.Splat.{rowsRead, splatAnswer, rowPatches, splatScript};
-ghost use Rattle.abi.specs.FrameBytes.{frameAt};
-ghost use Rattle.abi.specs.TileBytes.{tileAt};
+ghost use Rattle.layout.specs.FrameBytes.{frameAt};
+ghost use Rattle.layout.specs.TileBytes.{tileAt};
 
 // The first row that lacks something answers. reach is how many records a row needs from its start
 // on.

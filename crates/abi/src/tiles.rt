@@ -1,13 +1,13 @@
 // Superblock-row setup and splat, on lent bytes.
-use crate::frame_bytes::FRAME;
-use crate::frame_bytes::frame_at;
-use crate::frame_bytes::sizes_at;
-use crate::frame_bytes::well_frame;
 use crate::splats::splat;
-use crate::tile_bytes::TILE;
-use crate::tile_bytes::put_tile;
 use cells::block::Block;
 use cells::pos::Pos4;
+use layout::frame_bytes::FRAME;
+use layout::frame_bytes::frame_at;
+use layout::frame_bytes::sizes_at;
+use layout::frame_bytes::well_frame;
+use layout::tile_bytes::TILE;
+use layout::tile_bytes::put_tile;
 use rows::setup::TileRange;
 use rows::setup::is_pass;
 use rows::setup::is_tile;
@@ -19,8 +19,8 @@ ghost use lib.ListN.{length};
 ghost use Rattle.ground.specs.Answer.{accepted};
 ghost use Rattle.ground.specs.Script.{run};
 ghost use Rattle.rows.specs.Setup.{tileOf, rowsAnswer};
-ghost use Rattle.abi.specs.FrameBytes.{frameAt};
-ghost use Rattle.abi.specs.TileBytes.{tileBytes};
+ghost use Rattle.layout.specs.FrameBytes.{frameAt};
+ghost use Rattle.layout.specs.TileBytes.{tileBytes};
 ghost use Rattle.abi.specs.Framed.{whole};
 ghost use Rattle.abi.specs.Tiled.{range, rowInitAnswer, rowInitScript, splatOf, splatLacks, laidAnswer, laidScript};
 

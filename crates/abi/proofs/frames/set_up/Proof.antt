@@ -3,7 +3,7 @@
 use mathlib.Core.Path.{sym, ap, _∙_}
 use Rattle.ground.specs.Put.{put}
 use Rattle.ground.proofs.Answers.{run-refused}
-use Rattle.abi.specs.FrameBytes.{frameBytes}
+use Rattle.layout.specs.FrameBytes.{frameBytes}
 use Rattle.abi.proofs.Lent.{written, setup-answer, setup-frame}
 use borrow.Author.Needs.{needs}
 use Rattle.abi.proofs.frames.set_up.Statement.{statement}

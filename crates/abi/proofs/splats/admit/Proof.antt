@@ -7,17 +7,17 @@ use Rattle.frame.proofs.Sizing.{fits}
 use Rattle.rows.specs.Splat.{placeable, splatAnswer}
 use Rattle.rows.proofs.Parts.{records-fit}
 use Rattle.rows.proofs.Splats.{placed, row-listed, entry-most}
-use Rattle.abi.specs.FrameBytes.{frameAt}
-use Rattle.abi.specs.TileBytes.{tileAt}
-use Rattle.abi.proofs.Read.{sizes-well}
+use Rattle.layout.specs.FrameBytes.{frameAt}
+use Rattle.layout.specs.TileBytes.{tileAt}
+use Rattle.layout.proofs.Read.{sizes-well}
 use borrow.Author.Needs.{needs}
 use Rattle.abi.proofs.splats.admit.Statement.{statement}
 use Rattle.abi.proofs.splats.admit.Tie as tie
-use Rattle.abi.proofs.frame_bytes.sizes_at.Reads as sizes-at-reads
-use Rattle.abi.proofs.frame_bytes.well_frame.Reads as well-frame-reads
+use Rattle.layout.proofs.frame_bytes.sizes_at.Reads as sizes-at-reads
+use Rattle.layout.proofs.frame_bytes.well_frame.Reads as well-frame-reads
 use Rattle.abi.proofs.splats.read_rows.Reads as read-rows-reads
-use Rattle.abi.proofs.tile_bytes.columns_at.Reads as columns-at-reads
-use Rattle.abi.proofs.tile_bytes.rows_at.Reads as rows-at-reads
+use Rattle.layout.proofs.tile_bytes.columns_at.Reads as columns-at-reads
+use Rattle.layout.proofs.tile_bytes.rows_at.Reads as rows-at-reads
 use Rattle.frame.proofs.sizes.Sizes.records.Reads as records-reads
 use Rattle.rows.proofs.splat.first_entry.Reads as first-entry-reads
 use Rattle.rows.proofs.splat.is_placeable.Reads as is-placeable-reads

@@ -6,10 +6,10 @@ use native.Mathlib.Omega.{arith}
 use borrow.Author.Needs.{needs}
 use Rattle.rows.specs.Splat.{rowRead, rowsRead}
 use Rattle.rows.proofs.Splats.{read-on, read-stops, read-done}
-use Rattle.abi.specs.TileBytes.{tileAt}
+use Rattle.layout.specs.TileBytes.{tileAt}
 use Rattle.abi.proofs.splats.read_rows.Statement.{statement}
 use Rattle.abi.proofs.splats.read_rows.Tie as tie
-use Rattle.abi.proofs.tile_bytes.place_in.Reads as place-in-reads
+use Rattle.layout.proofs.tile_bytes.place_in.Reads as place-in-reads
 use Rattle.rows.proofs.splat.read_row.Reads as read-row-reads
 
 abbrev Inv-loop : tie.InvT-loop

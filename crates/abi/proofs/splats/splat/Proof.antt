@@ -6,8 +6,8 @@ use Rattle.ground.specs.Script.{run}
 use Rattle.ground.proofs.Answers.{run-refused, run-accepted}
 use Rattle.rows.specs.Splat.{splatScript, rowPatches}
 use Rattle.rows.proofs.Splats.{accepted, entry-most}
-use Rattle.abi.specs.FrameBytes.{frameAt}
-use Rattle.abi.specs.TileBytes.{tileAt}
+use Rattle.layout.specs.FrameBytes.{frameAt}
+use Rattle.layout.specs.TileBytes.{tileAt}
 use borrow.Author.Needs.{needs}
 use Rattle.abi.proofs.splats.splat.Statement.{statement}
 use Rattle.abi.proofs.splats.splat.Tie as tie

@@ -8,10 +8,10 @@ use borrow.Author.Needs.{needs}
 use Rattle.ground.specs.Script.{run}
 use Rattle.rows.specs.Splat.{rowsRead, rowPatch, rowPatches}
 use Rattle.rows.proofs.Splats.{read-first, rows-on, rows-done}
-use Rattle.abi.specs.TileBytes.{tileAt}
+use Rattle.layout.specs.TileBytes.{tileAt}
 use Rattle.abi.proofs.splats.write_rows.Statement.{statement}
 use Rattle.abi.proofs.splats.write_rows.Tie as tie
-use Rattle.abi.proofs.tile_bytes.place_in.Reads as place-in-reads
+use Rattle.layout.proofs.tile_bytes.place_in.Reads as place-in-reads
 use Rattle.rows.proofs.splat.write_row.Reads as write-row-reads
 
 abbrev Inv-loop : tie.InvT-loop

@@ -1,7 +1,7 @@
 -- `abi::tiles::admit` meets its contract.
 -- Assumes nothing.
 use Rattle.rows.specs.Setup.{rowsAnswer}
-use Rattle.abi.specs.FrameBytes.{frameAt}
+use Rattle.layout.specs.FrameBytes.{frameAt}
 use borrow.Author.Tests.{not-true, not-false}
 use borrow.Author.Needs.{needs}
 use Rattle.abi.proofs.tiles.admit.Statement.{statement}

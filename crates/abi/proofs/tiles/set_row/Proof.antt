@@ -3,7 +3,7 @@
 use mathlib.Core.Path.{sym, ap, _∙_}
 use Rattle.ground.specs.Put.{put}
 use Rattle.ground.proofs.Answers.{run-refused}
-use Rattle.abi.specs.TileBytes.{tileBytes}
+use Rattle.layout.specs.TileBytes.{tileBytes}
 use Rattle.abi.proofs.Lent.{written}
 use borrow.Author.Needs.{needs}
 use Rattle.abi.proofs.tiles.set_row.Statement.{statement}

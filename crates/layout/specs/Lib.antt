@@ -1,0 +1,3 @@
+-- The layouts of a frame record and of a tile.
+pub mod FrameBytes
+pub mod TileBytes
