@@ -2,12 +2,10 @@
 -- Assumes nothing.
 use mathlib.Core.Path.{_≡_, refl, sym, ap, _∙_}
 use mathlib.Core.Bool.{Bool, true, false, _||_}
-use mathlib.Core.List.{List, [], _++_, append-nil}
+use mathlib.Core.List.{List, []}
 use Prim.Native.Nat.{ℕ, _≤_}
 use native.Mathlib.Omega.{arith}
 use lib.Dec.{ltb}
-use lib.ListN.{length, take, drop, length-take}
-use lib.Seq.{take-length, drop-length}
 use borrow.Author.Tests.{ltb-false}
 use Rattle.ground.specs.Pick.{pick}
 use Rattle.ground.specs.Answer.{accepted}
@@ -15,7 +13,6 @@ use Rattle.ground.specs.Put.{put}
 use Rattle.ground.specs.Script.{Patch, run}
 use Rattle.ground.proofs.Answers.{run-accepted, beside-accepted}
 use Rattle.frame.specs.declared.description.Description.{Description}
-use Rattle.frame.specs.declared.record.Frame.{Frame}
 use Rattle.frame.specs.declared.setup.Setup.{Setup}
 use Rattle.frame.specs.Description.{setupAnswer}
 use Rattle.frame.specs.Record.{frameOf, noFrame, setupOf}
@@ -67,13 +64,6 @@ refused-short t n ps l e = rw e (refl, refl)
 pub answered : (t : Bool) (n : ℕ) (ps : List Patch) (l : List ℕ) {a : ℕ} {m : List ℕ} → t ≡ false → a ≡ n → m ≡ run (accepted n ps) l
     → (a ≡ pick t 4 n) × (m ≡ run (accepted (pick t 4 n) ps) l)
 answered t n ps l e p q = rw e (p, q)
-
--- all of a list is replaced, by as many bytes
-pub replaced : (s to : List ℕ) {r : List ℕ} → length to ≤ length s
-    → r ≡ take (length (take (length to) s)) (take (length to) s) ++ drop (length (take (length to) s)) to → r ≡ take (length to) s
-replaced s to h q =
-    let n : length (take (length to) s) ≡ length to = simp length-take (omega arith) in
-    q ∙ rw (take-length (take (length to) s), n, drop-length to, append-nil)
 
 -- a splat's parts
 pub record Room (f t b : ℕ) : Type 0 where

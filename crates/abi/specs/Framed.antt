@@ -22,23 +22,6 @@ whole bs = record { at = 0; bytes = bs } ∷ []
 abbrev pub shortFrame : ℕ → Bool
 shortFrame n = ltb n 109
 
--- the description whose hints are the first 7 and the first 49 bytes of what is lent
-unfoldable pub described : (width height sb128 hintBits currentHint : ℕ) (hints hintsByRef : List ℕ) (tileRows tileThreads frameThreads temporal : ℕ) → Description
-described width height sb128 hintBits currentHint hints hintsByRef tileRows tileThreads frameThreads temporal =
-    record {
-      width = width;
-      height = height;
-      sb128 = sb128;
-      «hint_bits» = hintBits;
-      «current_hint» = currentHint;
-      hints = take 7 hints;
-      «hints_by_ref» = take 49 hintsByRef;
-      «tile_rows» = tileRows;
-      «tile_threads» = tileThreads;
-      «frame_threads» = frameThreads;
-      temporal = temporal;
-    }
-
 -- by the lengths of the parts lent for hints, hints by reference, present flags and the frame
 unfoldable pub initLacks : (hints hintsByRef present frame : ℕ) → Bool
 initLacks hints hintsByRef present frame = ltb hints 7 || (ltb hintsByRef 49 || (ltb present 7 || shortFrame frame))

@@ -1,6 +1,5 @@
 // Jobs on lent bytes: admission of a batch, and a step of one of its jobs. A job is 17 bytes, the
 // low byte of a number first: the 13 that a capture file has, then four for its steps done.
-use crate::frames::seven;
 use crate::motions::area_of;
 use crate::motions::load_lacks;
 use ground::read::size_at;
@@ -12,6 +11,7 @@ use jobs::job::Job;
 use jobs::step::DONE;
 use jobs::step::step_row;
 use layout::frame_bytes::frame_at;
+use layout::start::seven;
 ghost use mathlib.Core.Path.{_≡_};
 ghost use mathlib.Core.Bool.{_&&_};
 ghost use Prim.Native.Nat.{_+_, _*_, _≤_};

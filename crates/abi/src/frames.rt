@@ -8,16 +8,19 @@ use ground::write::put_sizes;
 use layout::frame_bytes::FRAME;
 use layout::frame_bytes::frame_at;
 use layout::frame_bytes::put_frame;
+use layout::start::forty_nine;
+use layout::start::seven;
 ghost use mathlib.Core.Path.{_≡_};
 ghost use Prim.Native.Nat.{_≤_};
-ghost use lib.ListN.{length, take};
+ghost use lib.ListN.{length};
 ghost use Rattle.ground.specs.Answer.{accepted};
 ghost use Rattle.ground.specs.Put.{put};
 ghost use Rattle.ground.specs.Script.{run};
 ghost use Rattle.frame.specs.Description.{setupAnswer};
 ghost use Rattle.frame.specs.Record.{frameOf};
+ghost use Rattle.layout.specs.DescriptionBytes.{described};
 ghost use Rattle.layout.specs.FrameBytes.{frameBytes};
-ghost use Rattle.abi.specs.Framed.{whole, described, initLacks, initAnswer, initScript, checked, listedBytes, listedAnswer, listedScript};
+ghost use Rattle.abi.specs.Framed.{whole, initLacks, initAnswer, initScript, checked, listedBytes, listedAnswer, listedScript};
 
 const HINTS: usize = 7;
 
@@ -27,33 +30,6 @@ pub(crate) const PRESENT: usize = 7;
 
 // Three numbers of four bytes.
 const LISTED: usize = 12;
-
-// As many bytes as there is space, from the start of s.
-fn copy_start(s: &[u8], to: &mut [u8])
-    requires { ⌜ length (now to) ≤ length (now s) ⌝ }
-    ensures { λ _. ⌜ now (to .exit) ≡ take (length (now (to .entry))) (now (s .entry)) ⌝ }
-{
-    let end = to.len();
-    bytes::copy(&s[..end], to);
-}
-
-pub(crate) fn seven(s: &[u8]) -> [u8; 7]
-    requires { ⌜ 7 ≤ length (now s) ⌝ }
-    ensures { λ r. ⌜ r ≡ take 7 (now (s .entry)) ⌝ }
-{
-    let mut to = [0u8; 7];
-    copy_start(s, &mut to);
-    to
-}
-
-fn forty_nine(s: &[u8]) -> [u8; 49]
-    requires { ⌜ 49 ≤ length (now s) ⌝ }
-    ensures { λ r. ⌜ r ≡ take 49 (now (s .entry)) ⌝ }
-{
-    let mut to = [0u8; 49];
-    copy_start(s, &mut to);
-    to
-}
 
 // Lengths alone, so that a part that is too short is never read.
 fn init_lacks(hints: usize, hints_by_ref: usize, present: usize, frame: usize) -> bool

@@ -1,9 +1,9 @@
 // Save and load of motion, on lent bytes.
 use crate::frames::PRESENT;
-use crate::frames::seven;
 use cells::pos::Pos8;
 use layout::frame_bytes::FRAME;
 use layout::frame_bytes::frame_at;
+use layout::start::seven;
 use loading::load::load_tmvs;
 use saving::area::Area;
 use saving::save::save_tmvs;

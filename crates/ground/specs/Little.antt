@@ -1,4 +1,4 @@
--- Numbers of four bytes, the low byte first.
+-- Numbers of two bytes and of four, the low byte first.
 use Prim.Native.Nat.{ℕ, _+_, _*_, _/_, _%_}
 use mathlib.Core.List.{List, [], _∷_, _++_}
 use lib.IntN.{ℤ, pos, negsuc}
@@ -6,6 +6,10 @@ use lib.ListN.{getD}
 use mir.Syntax.{w32}
 use mir.Val.{toZ}
 use Rattle.ground.specs.Sign.{clip3}
+
+-- the number in the two bytes from i on
+abbrev pub twoAt : List ℕ → ℕ → ℕ
+twoAt l i = getD l i 0 + 256 * getD l (i + 1) 0
 
 abbrev pub four : ℕ → ℕ → ℕ → ℕ → ℕ
 four a b c d = a + 256 * b + 65536 * c + 16777216 * d

@@ -3,7 +3,33 @@ ghost use mathlib.Core.Path.{_≡_};
 ghost use Prim.Native.Nat.{_+_, _*_, _≤_, min};
 ghost use mathlib.Core.List.{_∷_, []};
 ghost use lib.ListN.{length, getD};
-ghost use Rattle.ground.specs.Little.{four, fourAt, fourBytes, held16};
+ghost use Rattle.ground.specs.Little.{four, fourAt, fourBytes, held16, twoAt};
+
+fn wide(b: u8) -> usize
+    ensures { λ r. ⌜ r ≡ b ⌝ }
+{
+    b as usize
+}
+
+pub fn one_at(s: &[u8], at: usize) -> usize
+    requires { ⌜ at + 1 ≤ length (now s) ⌝ }
+    ensures { λ r. ⌜ r ≡ getD (now (s .entry)) at 0 ⌝ }
+{
+    wide(s[at])
+}
+
+fn paired(low: u8, high: u8) -> usize
+    ensures { λ r. ⌜ r ≡ low + 256 * high ⌝ }
+{
+    low as usize + 256 * (high as usize)
+}
+
+pub fn two_at(s: &[u8], at: usize) -> usize
+    requires { ⌜ at + 2 ≤ length (now s) ⌝ }
+    ensures { λ r. ⌜ r ≡ twoAt (now (s .entry)) at ⌝ }
+{
+    paired(s[at], s[at + 1])
+}
 
 fn joined(a: u8, b: u8, c: u8, d: u8) -> u32
     ensures { λ r. ⌜ r ≡ four a b c d ⌝ }

@@ -1,6 +1,6 @@
 -- A frame record that was laid down, and read again: what setup made comes back whole.
 -- Assumes nothing.
-use mathlib.Core.Path.{_≡_, refl, sym, ap, _∙_}
+use mathlib.Core.Path.{_≡_, refl, ap, _∙_}
 use mathlib.Core.Logic.{_⊎_, inl, inr}
 use mathlib.Core.Bool.{Bool, true, false, _&&_}
 use mathlib.Core.List.{List, [], _∷_}
@@ -9,19 +9,17 @@ use native.Mathlib.Nat.{mod-eq-of-lt}
 use native.Mathlib.Omega.{arith}
 use lib.Dec.{ltb, leb}
 use lib.IntN.{ℤ, pos, negsuc, natAbs}
-use lib.ListN.{length, getD, replicate, take}
+use lib.ListN.{length, getD, replicate}
 use lib.Signed.{mag}
 use borrow.Author.Tests.{leb-true, ne-eqb}
 use Rattle.ground.specs.Pick.{pick}
 use Rattle.ground.specs.Sign.{eqZ}
 use Rattle.ground.specs.Below.{allBelow}
 use Rattle.ground.specs.Put.{put}
-use Rattle.ground.specs.Script.{run}
 use Rattle.ground.specs.Twos.{twos16, bits16}
 use Rattle.ground.specs.Little.{fours}
 use Rattle.ground.proofs.Picks.{both}
 use Rattle.ground.proofs.Belows as belows
-use Rattle.ground.proofs.Answers.{refused-not, run-accepted}
 use Rattle.ground.proofs.Littles.{four-whole}
 use Rattle.frame.specs.declared.description.Description.{Description}
 use Rattle.frame.specs.declared.sizes.Sizes.{Sizes}

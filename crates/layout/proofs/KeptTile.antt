@@ -1,7 +1,7 @@
 -- A tile that was laid down, and read again: what superblock-row setup made comes back whole.
 -- Assumes nothing.
 use mathlib.Core.Path.{_≡_, refl, sym, ap, _∙_}
-use mathlib.Core.Bool.{Bool, true, false, _&&_, _||_}
+use mathlib.Core.Bool.{Bool, true, false, _&&_}
 use mathlib.Core.List.{List}
 use Prim.Native.Nat.{ℕ, _+_, _*_, _^_, _≤_, _<_, min}
 use native.Mathlib.Nat.{zero-add}
@@ -10,10 +10,8 @@ use lib.Dec.{ltb, leb}
 use lib.ListN.{length, getD}
 use borrow.Author.Tests.{ne-eqb, lt-ltb, lt-leb, ltb-true, leb-true}
 use Rattle.ground.specs.Put.{put}
-use Rattle.ground.specs.Script.{run}
 use Rattle.ground.specs.Little.{fourAt, fours}
 use Rattle.ground.proofs.Picks.{pick-true, and-last}
-use Rattle.ground.proofs.Answers.{refused-not, run-accepted}
 use Rattle.ground.proofs.Littles.{four-whole}
 use Rattle.cells.specs.declared.pos.Pos4.{Pos4}
 use Rattle.frame.specs.declared.record.Frame.{Frame}
@@ -30,7 +28,6 @@ use Rattle.rows.specs.Splat.{holds}
 use Rattle.rows.proofs.Tabled.{tab-at}
 use Rattle.rows.proofs.Parts.{in-frame, rows-accepted}
 use Rattle.rows.proofs.Apart.{row-listed}
-use Rattle.layout.specs.FrameBytes.{frameAt}
 use Rattle.layout.specs.TileBytes.{absentMark, placeOf, placeNumber, entryIn, tileAt, entryNumber, boundNumbers, tileBytes}
 use Rattle.layout.proofs.Places.{Agree, four-same, laid-agrees, fours-at, tab-length, tab-cong, tab-all}
 

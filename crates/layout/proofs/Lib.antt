@@ -1,4 +1,5 @@
 -- Laws of the layouts: what is written is read again.
+pub mod Starts
 pub mod Pieces
 pub mod Entries
 pub mod Read

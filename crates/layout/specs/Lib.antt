@@ -1,3 +1,4 @@
--- The layouts of a frame record and of a tile.
+-- The layouts of a frame record, of a tile and of a description.
+pub mod DescriptionBytes
 pub mod FrameBytes
 pub mod TileBytes

@@ -3,7 +3,8 @@
 use mathlib.Core.Path.{sym, _∙_}
 use native.Mathlib.Omega.{arith}
 use lib.ListN.{length, length-take}
-use Rattle.abi.specs.Framed.{described, initAnswer, initScript}
+use Rattle.layout.specs.DescriptionBytes.{described}
+use Rattle.abi.specs.Framed.{initAnswer, initScript}
 use Rattle.abi.proofs.Lent.{enough, refused-short, answered}
 use borrow.Author.Needs.{needs}
 use Rattle.abi.proofs.frames.jaskkovir_init_frame.Statement.{statement}

@@ -1,11 +1,11 @@
--- `abi::frames::copy_start` meets its contract.
+-- `layout::start::copy_start` meets its contract.
 -- Assumes nothing.
-use Rattle.abi.proofs.Lent.{replaced}
+use Rattle.layout.proofs.Starts.{replaced}
 use native.Mathlib.Omega.{arith}
 use lib.ListN.{length-take}
 use borrow.Author.Needs.{needs}
-use Rattle.abi.proofs.frames.copy_start.Statement.{statement}
-use Rattle.abi.proofs.frames.copy_start.Tie as tie
+use Rattle.layout.proofs.start.copy_start.Statement.{statement}
+use Rattle.layout.proofs.start.copy_start.Tie as tie
 
 slice-aggregate-copy : tie.Need-slice-aggregate-copy
 slice-aggregate-copy c = simp length-take (omega arith)
