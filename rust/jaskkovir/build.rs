@@ -1,4 +1,4 @@
-//! Links the library that `rt staticlib abi` leaves in the repository.
+//! Links the library that `rust/library` leaves in the repository.
 
 use std::env;
 use std::path::Path;
@@ -9,7 +9,7 @@ fn main() {
     let library = folder.join("libabi.a");
     println!("cargo::rerun-if-changed={}", library.display());
     if !library.is_file() {
-        println!("cargo::error=target/staticlib/libabi.a isn't there: run `rt staticlib abi` in the repository's root");
+        println!("cargo::error=target/staticlib/libabi.a isn't there: run `rust/library` in the repository's root");
         return;
     }
     println!("cargo::rustc-link-search=native={}", folder.display());
