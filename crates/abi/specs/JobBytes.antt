@@ -5,16 +5,12 @@ use mathlib.Core.List.{List}
 use lib.Dec.{ltb}
 use lib.ListN.{length, getD}
 use Rattle.ground.specs.Pick.{pick}
-use Rattle.ground.specs.Little.{fourAt}
+use Rattle.ground.specs.Little.{twoAt, fourAt}
 use Rattle.rows.specs.Table.{tab}
 use Rattle.jobs.specs.declared.job.Job.{Job}
 use Rattle.jobs.specs.declared.job.Batch.{Batch}
 use Rattle.jobs.specs.Job.{noJob}
 use Rattle.abi.specs.Moved.{area}
-
--- the number in the two bytes from i on
-abbrev pub twoAt : List ℕ → ℕ → ℕ
-twoAt l i = getD l i 0 + 256 * getD l (i + 1) 0
 
 -- The job that any bytes hold from i on.
 unfoldable pub jobFrom : List ℕ → ℕ → Job

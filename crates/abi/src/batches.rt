@@ -2,7 +2,9 @@
 // low byte of a number first: the 13 that a capture file has, then four for its steps done.
 use crate::motions::area_of;
 use crate::motions::load_lacks;
+use ground::read::one_at;
 use ground::read::size_at;
+use ground::read::two_at;
 use ground::write::put_size;
 use jobs::admit::admit;
 use jobs::job::Answer;
@@ -22,7 +24,7 @@ ghost use Rattle.ground.specs.Script.{run};
 ghost use Rattle.loading.specs.Load.{lent};
 ghost use Rattle.jobs.specs.Job.{noJob};
 ghost use Rattle.jobs.specs.Step.{numberOf};
-ghost use Rattle.abi.specs.JobBytes.{twoAt, jobFrom, jobsIn, placeIn, batchIn};
+ghost use Rattle.abi.specs.JobBytes.{jobFrom, jobsIn, placeIn, batchIn};
 ghost use Rattle.abi.specs.Batched.{admittedAnswer, steppedNumber, steppedProj, steppedSaved, donePatch, steppedJobs};
 
 const JOB: usize = 17;
@@ -30,32 +32,13 @@ const JOB: usize = 17;
 // Where a job's steps done stand in its bytes.
 const STEPS_DONE: usize = 13;
 
-fn wide(b: u8) -> usize
-    ensures { λ r. ⌜ r ≡ b ⌝ }
-{
-    b as usize
-}
-
-fn pair(low: u8, high: u8) -> usize
-    ensures { λ r. ⌜ r ≡ low + 256 * high ⌝ }
-{
-    low as usize + 256 * (high as usize)
-}
-
-fn two_at(s: &[u8], at: usize) -> usize
-    requires { ⌜ at + 2 ≤ length (now s) ⌝ }
-    ensures { λ r. ⌜ r ≡ twoAt (now (s .entry)) at ⌝ }
-{
-    pair(s[at], s[at + 1])
-}
-
 // The job that the bytes hold, whatever they are: admission and each step judge it.
 fn job_from(s: &[u8], at: usize) -> Job
     requires { ⌜ at + 17 ≤ length (now s) ⌝ }
     ensures { λ r. ⌜ r ≡ jobFrom (now (s .entry)) at ⌝ }
 {
     let area = area_of(
-        wide(s[at + 1]),
+        one_at(s, at + 1),
         two_at(s, at + 2),
         two_at(s, at + 4),
         two_at(s, at + 6),
@@ -65,7 +48,7 @@ fn job_from(s: &[u8], at: usize) -> Job
         kind: s[at],
         area,
         sby: two_at(s, at + 10),
-        pass: wide(s[at + 12]),
+        pass: one_at(s, at + 12),
         done: size_at(s, at + STEPS_DONE),
     }
 }

@@ -5,14 +5,11 @@ use borrow.Author.Needs.{needs}
 use Rattle.abi.proofs.batches.job_from.Statement.{statement}
 use Rattle.abi.proofs.batches.job_from.Tie as tie
 
-add-wide : tie.Need-add-wide
-add-wide c = search needs
+add-one-at : tie.Need-add-one-at
+add-one-at c = search needs
 
-shared-slice-read-wide : tie.Need-shared-slice-read-wide
-shared-slice-read-wide c = search needs
-
-wide-requires : tie.Need-wide-requires
-wide-requires c κs = search needs
+one-at-requires : tie.Need-one-at-requires
+one-at-requires c κs = search needs
 
 add-two-at : tie.Need-add-two-at
 add-two-at c = search needs
@@ -41,8 +38,8 @@ two-at-requires-4 c κs = search needs
 area-of-requires : tie.Need-area-of-requires
 area-of-requires c κs = search needs
 
-shared-slice-read-t7 : tie.Need-shared-slice-read-t7
-shared-slice-read-t7 c = search needs
+shared-slice-read-t15 : tie.Need-shared-slice-read-t15
+shared-slice-read-t15 c = search needs
 
 add-two-at-5 : tie.Need-add-two-at-5
 add-two-at-5 c = search needs
@@ -50,14 +47,11 @@ add-two-at-5 c = search needs
 two-at-requires-5 : tie.Need-two-at-requires-5
 two-at-requires-5 c κs = search needs
 
-add-wide-2 : tie.Need-add-wide-2
-add-wide-2 c = search needs
+add-one-at-2 : tie.Need-add-one-at-2
+add-one-at-2 c = search needs
 
-shared-slice-read-wide-2 : tie.Need-shared-slice-read-wide-2
-shared-slice-read-wide-2 c = search needs
-
-wide-requires-2 : tie.Need-wide-requires-2
-wide-requires-2 c κs = search needs
+one-at-requires-2 : tie.Need-one-at-requires-2
+one-at-requires-2 c κs = search needs
 
 add-size-at : tie.Need-add-size-at
 add-size-at c = search needs
@@ -73,9 +67,8 @@ pub job-from-spec : {M : Type 1} → statement M
 job-from-spec =
     tie.close
     (tie.spec
-    add-wide
-    shared-slice-read-wide
-    wide-requires
+    add-one-at
+    one-at-requires
     add-two-at
     two-at-requires
     add-two-at-2
@@ -85,12 +78,11 @@ job-from-spec =
     add-two-at-4
     two-at-requires-4
     area-of-requires
-    shared-slice-read-t7
+    shared-slice-read-t15
     add-two-at-5
     two-at-requires-5
-    add-wide-2
-    shared-slice-read-wide-2
-    wide-requires-2
+    add-one-at-2
+    one-at-requires-2
     add-size-at
     size-at-requires
     returns)
