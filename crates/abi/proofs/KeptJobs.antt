@@ -25,10 +25,11 @@ use Rattle.rows.proofs.Tabled.{tab-at}
 use Rattle.jobs.specs.declared.job.Job.{Job}
 use Rattle.jobs.specs.declared.job.Batch.{Batch}
 use Rattle.jobs.specs.Job.{noJob, jobAt}
+use Rattle.jobs.specs.Bytes.{jobHeld}
 use Rattle.jobs.specs.Admit.{Handed}
 use Rattle.jobs.specs.Step.{stepNumber, stepDone, withDone, names, turnNumber, turnBatch}
 use Rattle.jobs.proofs.Steps.{due}
-use Rattle.abi.specs.Moved.{area, loadLacks}
+use Rattle.abi.specs.Moved.{loadLacks}
 use Rattle.abi.specs.JobBytes.{jobFrom, jobIn, jobsIn, placeIn, batchIn}
 use Rattle.abi.specs.Batched.{handedIn, donePatch, steppedNumber, steppedJobs}
 use Rattle.abi.proofs.LentJobs.{Named, inside, names-job, job-there}
@@ -37,7 +38,7 @@ use Rattle.layout.proofs.Places.{tab-length}
 -- A job by its bytes: those before its steps done, and the steps done.
 module _ (l m : List ℕ) (i : ℕ) where
   but-done : ((p : ℕ) → i ≤ p → p < i + 13 → getD l p 0 ≡ getD m p 0) → jobFrom l i ≡ withDone (jobFrom m i) (fourAt l (i + 13))
-  unfolding jobFrom area
+  unfolding jobHeld
   but-done e =
       rw (
         e i (omega arith) (omega arith),
@@ -56,7 +57,7 @@ module _ (l m : List ℕ) (i : ℕ) where
       )
 
   job-same : ((p : ℕ) → i ≤ p → p < i + 17 → getD l p 0 ≡ getD m p 0) → jobFrom l i ≡ jobFrom m i
-  unfolding jobFrom
+  unfolding jobHeld
   job-same e =
       but-done (λ p a b. e p a (omega arith))
       ∙ ap (withDone (jobFrom m i)) (

@@ -1,16 +1,14 @@
 // Jobs on lent bytes: admission of a batch, and a step of one of its jobs. A job is 17 bytes, the
 // low byte of a number first: the 13 that a capture file has, then four for its steps done.
-use crate::motions::area_of;
 use crate::motions::load_lacks;
-use ground::read::one_at;
 use ground::read::size_at;
-use ground::read::two_at;
 use ground::write::put_size;
 use jobs::admit::admit;
-use jobs::job::Answer;
+use jobs::bytes::job_at;
+use jobs::bytes::no_job;
 use jobs::job::Batch;
 use jobs::job::Job;
-use jobs::step::DONE;
+use jobs::step::number_of;
 use jobs::step::step_row;
 use layout::frame_bytes::frame_at;
 use layout::start::seven;
@@ -22,8 +20,6 @@ ghost use lib.ListN.{length};
 ghost use Rattle.ground.specs.Answer.{accepted};
 ghost use Rattle.ground.specs.Script.{run};
 ghost use Rattle.loading.specs.Load.{lent};
-ghost use Rattle.jobs.specs.Job.{noJob};
-ghost use Rattle.jobs.specs.Step.{numberOf};
 ghost use Rattle.abi.specs.JobBytes.{jobFrom, jobsIn, placeIn, batchIn};
 ghost use Rattle.abi.specs.Batched.{admittedAnswer, steppedNumber, steppedProj, steppedSaved, donePatch, steppedJobs};
 
@@ -32,38 +28,11 @@ const JOB: usize = 17;
 // Where a job's steps done stand in its bytes.
 const STEPS_DONE: usize = 13;
 
-// The job that the bytes hold, whatever they are: admission and each step judge it.
 fn job_from(s: &[u8], at: usize) -> Job
     requires { ⌜ at + 17 ≤ length (now s) ⌝ }
     ensures { λ r. ⌜ r ≡ jobFrom (now (s .entry)) at ⌝ }
 {
-    let area = area_of(
-        one_at(s, at + 1),
-        two_at(s, at + 2),
-        two_at(s, at + 4),
-        two_at(s, at + 6),
-        two_at(s, at + 8),
-    );
-    Job {
-        kind: s[at],
-        area,
-        sby: two_at(s, at + 10),
-        pass: one_at(s, at + 12),
-        done: size_at(s, at + STEPS_DONE),
-    }
-}
-
-fn no_job() -> Job
-    ensures { λ r. ⌜ r ≡ noJob ⌝ }
-{
-    let area = area_of(0, 0, 0, 0, 0);
-    Job {
-        kind: 0,
-        area,
-        sby: 0,
-        pass: 0,
-        done: 0,
-    }
+    job_at(s, at, size_at(s, at + STEPS_DONE))
 }
 
 fn place_in(s: &[u8], i: usize) -> Job
@@ -102,17 +71,6 @@ fn is_named(len: usize, k: usize) -> bool
         return false;
     }
     k < n
-}
-
-// The paper's number of an answer.
-fn number_of(a: Answer) -> u8
-    ensures { λ r. ⌜ r ≡ numberOf a ⌝ }
-{
-    match a {
-        Answer::Moved => 0,
-        Answer::Done => DONE,
-        Answer::Refused(n) => n,
-    }
 }
 
 // Only a step that is counted is written down.

@@ -5,9 +5,8 @@ use crate::orders::Tried;
 use crate::orders::try_all;
 use crate::orders::try_drawn;
 use crate::tally::Tally;
-use jobs::job::Answer;
 use jobs::job::Batch;
-use jobs::step::DONE;
+use jobs::step::number_of;
 use lines::print;
 use motion_cases::changes;
 use rows::setup::lesser;
@@ -20,14 +19,6 @@ const ONE_EACH: usize = 9;
 
 // A case asks for fewer orders.
 const MOST_ORDERS: usize = 1000000;
-
-fn number_of(answer: Answer) -> u8 {
-    match answer {
-        Answer::Moved => 0,
-        Answer::Done => DONE,
-        Answer::Refused(n) => n,
-    }
-}
 
 fn show_both(proj: &[u8], saved: &[u8]) {
     changes::show(proj);

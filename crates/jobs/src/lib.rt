@@ -1,5 +1,6 @@
 // Jobs: loads and saves as records with a count of steps, admitted together and stepped in any order.
 pub mod admit;
+pub mod bytes;
 pub mod front;
 pub mod job;
 pub mod share;

@@ -13,7 +13,7 @@ ghost use lib.ListN.{length};
 ghost use Rattle.ground.specs.Script.{run};
 ghost use Rattle.loading.specs.Load.{lengthsOf, lent};
 ghost use Rattle.jobs.specs.Admit.{handed};
-ghost use Rattle.jobs.specs.Step.{answerOf, stepNumber, stepDone, stepProj, stepSaved, names, turnNumber, turnBatch, turnProj, turnSaved};
+ghost use Rattle.jobs.specs.Step.{answerOf, numberOf, stepNumber, stepDone, stepProj, stepSaved, names, turnNumber, turnBatch, turnProj, turnSaved};
 
 // A job's answer, and its steps done afterwards.
 pub struct Stepped {
@@ -40,6 +40,17 @@ pub fn answer_of(number: u8) -> Answer
         return Answer::Done;
     }
     Answer::Refused(number)
+}
+
+// The paper's number of an answer.
+pub fn number_of(a: Answer) -> u8
+    ensures { λ r. ⌜ r ≡ numberOf a ⌝ }
+{
+    match a {
+        Answer::Moved => 0,
+        Answer::Done => DONE,
+        Answer::Refused(n) => n,
+    }
 }
 
 fn step_number<'a>(

@@ -1,57 +1,8 @@
 -- `abi::batches::job_from` meets its contract.
 -- Assumes nothing.
-use Rattle.abi.specs.JobBytes.{jobFrom}
 use borrow.Author.Needs.{needs}
 use Rattle.abi.proofs.batches.job_from.Statement.{statement}
 use Rattle.abi.proofs.batches.job_from.Tie as tie
-
-add-one-at : tie.Need-add-one-at
-add-one-at c = search needs
-
-one-at-requires : tie.Need-one-at-requires
-one-at-requires c κs = search needs
-
-add-two-at : tie.Need-add-two-at
-add-two-at c = search needs
-
-two-at-requires : tie.Need-two-at-requires
-two-at-requires c κs = search needs
-
-add-two-at-2 : tie.Need-add-two-at-2
-add-two-at-2 c = search needs
-
-two-at-requires-2 : tie.Need-two-at-requires-2
-two-at-requires-2 c κs = search needs
-
-add-two-at-3 : tie.Need-add-two-at-3
-add-two-at-3 c = search needs
-
-two-at-requires-3 : tie.Need-two-at-requires-3
-two-at-requires-3 c κs = search needs
-
-add-two-at-4 : tie.Need-add-two-at-4
-add-two-at-4 c = search needs
-
-two-at-requires-4 : tie.Need-two-at-requires-4
-two-at-requires-4 c κs = search needs
-
-area-of-requires : tie.Need-area-of-requires
-area-of-requires c κs = search needs
-
-shared-slice-read-t15 : tie.Need-shared-slice-read-t15
-shared-slice-read-t15 c = search needs
-
-add-two-at-5 : tie.Need-add-two-at-5
-add-two-at-5 c = search needs
-
-two-at-requires-5 : tie.Need-two-at-requires-5
-two-at-requires-5 c κs = search needs
-
-add-one-at-2 : tie.Need-add-one-at-2
-add-one-at-2 c = search needs
-
-one-at-requires-2 : tie.Need-one-at-requires-2
-one-at-requires-2 c κs = search needs
 
 add-size-at : tie.Need-add-size-at
 add-size-at c = search needs
@@ -59,30 +10,11 @@ add-size-at c = search needs
 size-at-requires : tie.Need-size-at-requires
 size-at-requires c κs = search needs
 
+job-at-requires : tie.Need-job-at-requires
+job-at-requires c κs = search needs
+
 returns : tie.Need-returns
-unfolding jobFrom
-returns c = (cc)
+returns c = rw (← c .before .size-at .ensures) (c .job-at .ensures)
 
 pub job-from-spec : {M : Type 1} → statement M
-job-from-spec =
-    tie.close
-    (tie.spec
-    add-one-at
-    one-at-requires
-    add-two-at
-    two-at-requires
-    add-two-at-2
-    two-at-requires-2
-    add-two-at-3
-    two-at-requires-3
-    add-two-at-4
-    two-at-requires-4
-    area-of-requires
-    shared-slice-read-t15
-    add-two-at-5
-    two-at-requires-5
-    add-one-at-2
-    one-at-requires-2
-    add-size-at
-    size-at-requires
-    returns)
+job-from-spec = tie.close (tie.spec add-size-at size-at-requires job-at-requires returns)
