@@ -1,7 +1,7 @@
 -- A capture file: its entries are there, its bodies tile it, no two entries have one kind, and what stands for a kind is one entry's body.
 -- Assumes nothing.
 use mathlib.Core.Path.{_≡_, refl, sym, ap, ap₂, _∙_}
-use mathlib.Core.Bool.{Bool, true, false, not}
+use mathlib.Core.Bool.{Bool, true, false, not, true≢false}
 use mathlib.Core.List.{List, [], _++_, append-assoc, append-nil}
 use Prim.Native.Nat.{ℕ, zero, suc, _+_, _-_, _*_, _≤_, _<_}
 use native.Mathlib.Numerals.{add-one}
@@ -273,3 +273,16 @@ module _ (f : List ℕ) (k : ℕ) where
             long = long;
             whole = ap₂ wholeBody (sym (entry-kind f k there)) n ∙ rules f p .whole (entryOf f k) there;
           }
+
+whole-one : (n : ℕ) → wholeBody 1 n ≡ true → n ≡ 67
+unfolding wholeBody
+whole-one n e = eqb-true n 67 e
+
+-- a well-formed file's description has its 67 bytes
+pub described : (f : List ℕ) → wellFile f ≡ true → length (bodyOf f 1) ≡ 67
+described f w = by (scanOf f 1) refl
+  where
+    by : (s : Scan) → scanOf f 1 ≡ s → length (bodyOf f 1) ≡ 67
+    by Malformed e = absurd (true≢false (sym w ∙ malformed f 1 e))
+    by Absent e = absurd (absent f 1 e .none 0 (counted f (rules f w .has) .some) (rules f w .first))
+    by (Present start end) e = whole-one _ (present f 1 start end e .whole)

@@ -178,7 +178,7 @@ pub(crate) fn start_of(file: &[u8], i: usize) -> usize
     at
 }
 
-pub(crate) fn is_well(file: &[u8]) -> bool
+pub fn is_well(file: &[u8]) -> bool
     ensures { λ r. ⌜ r ≡ wellFile (now (file .entry)) ⌝ }
 {
     if !has_entries(file) {

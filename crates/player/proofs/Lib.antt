@@ -1,0 +1,2 @@
+-- Laws of a capture that is opened and played.
+pub mod Opens

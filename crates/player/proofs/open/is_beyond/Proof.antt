@@ -1,0 +1,24 @@
+use Rattle.ground.proofs.Tests.{tests}
+use Rattle.player.specs.Opened.{beyond}
+use Rattle.player.proofs.open.is_beyond.Statement.{statement}
+use Rattle.player.proofs.open.is_beyond.Tie as tie
+use Rattle.player.proofs.open.is_beyond.Reads as reads
+use Rattle.player.proofs.open.is_beyond.Lts as lts
+
+-- src/open.rt:112:9
+returns : tie.Need-returns
+unfolding beyond
+returns c = search tests
+
+-- src/open.rt:115:9
+returns-2 : tie.Need-returns-2
+unfolding beyond
+returns-2 c = search tests
+
+-- src/open.rt:108:1
+returns-3 : tie.Need-returns-3
+unfolding beyond
+returns-3 c = search tests
+
+pub is-beyond-spec : {M : Type 1} → statement M
+is-beyond-spec = tie.close (tie.spec returns returns-2 returns-3)

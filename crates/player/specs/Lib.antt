@@ -1,0 +1,3 @@
+-- A capture, opened and played.
+pub mod Opened
+pub mod Played
