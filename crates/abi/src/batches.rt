@@ -152,21 +152,10 @@ pub extern "C" fn jaskkovir_step<'a>(
     if !is_named(jobs.len(), k) {
         return 12;
     }
-    let s = step_row(
-        job_from(jobs, JOB * k),
-        frame_at(frame),
-        seven(present),
-        f0,
-        f1,
-        f2,
-        f3,
-        f4,
-        f5,
-        f6,
-        recs,
-        proj,
-        saved,
-    );
+    let job = job_from(jobs, JOB * k);
+    let f = frame_at(frame);
+    let p = seven(present);
+    let s = step_row(job, f, p, f0, f1, f2, f3, f4, f5, f6, recs, proj, saved);
     let answer = s.answer;
     let number = number_of(answer);
     write_down(jobs, k, number, s.done);

@@ -4,19 +4,23 @@ use mathlib.Core.Path.{_≡_, sym, _∙_}
 use mathlib.Core.Bool.{true, false}
 use Prim.Native.Nat.{ℕ, _≤_, _<_}
 use native.Mathlib.Omega.{arith}
+use lib.Dec.{leb}
 use lib.ListN.{length}
-use borrow.Author.Tests.{eq-eqb, ne-eqb, lt-ltb, le-ltb}
+use borrow.Author.Tests.{leb-true}
 use Rattle.ground.specs.Below.{allBelow}
 use Rattle.ground.specs.Pick.{pick}
 use Rattle.ground.specs.Span.{firstOf}
 use Rattle.ground.proofs.Answers.{both-accept, or-accepts, or-refuses}
+use Rattle.ground.proofs.Belows as belows
+use Rattle.ground.proofs.Picks.{both}
 use Rattle.ground.proofs.Spans.{all-accept}
 use Rattle.frame.specs.Record.{wellFrame}
+use Rattle.frame.specs.Sizes.{oneTo}
 use Rattle.saving.specs.Area.{wellArea}
 use Rattle.loading.specs.Load.{lengthsOf}
 use Rattle.jobs.specs.declared.job.Job.{Job}
 use Rattle.jobs.specs.declared.job.Batch.{Batch}
-use Rattle.jobs.specs.Job.{jobAt, wellKind, jobReads}
+use Rattle.jobs.specs.Job.{jobAt, wellKind, wellBatch, jobReads}
 use Rattle.jobs.specs.Needs.{Able, Areas}
 use Rattle.jobs.specs.Admit.{Handed, lengthsIn, frontOf, jobAnswer, apart, batchAnswer}
 use Rattle.jobs.proofs.Fronts.{Front, front}
@@ -39,9 +43,26 @@ module _ (h : Handed) (j : Job) {r : ℕ} (e : r ≡ frontOf h j) where
 abbrev pub jobsAnswer : Handed → Batch → ℕ
 jobsAnswer h b = firstOf (λ i. jobAnswer h (jobAt b i)) 0 (b .n)
 
-pub areas : (h : Handed) (b : Batch) → (b .n ≡ 0 → ⊥) → b .n ≤ 8 → {r : ℕ} → r ≡ jobsAnswer h b → r ≡ 0 → Areas (h .frame) b (b .n)
+-- a batch whose jobs may be judged one by one
+pub one-to-eight : (n : ℕ) → oneTo 8 n ≡ true → (1 ≤ n) × (n ≤ 8)
+unfolding oneTo
+one-to-eight n e = let p = both (leb 1 n) (leb n 8) e in (leb-true 1 n (p .0), leb-true n 8 (p .1))
+
+pub record Formed (b : Batch) : Type 0 where
+  pub some : 1 ≤ b .n
+  pub few : b .n ≤ 8
+  pub kinds : (i : ℕ) → i < b .n → wellKind (jobAt b i) ≡ true
+
+pub formed : (b : Batch) → wellBatch b ≡ true → Formed b
+unfolding wellBatch
+formed b w =
+    let p = both (oneTo 8 (b .n)) (allBelow (b .n) (λ i. wellKind (jobAt b i))) w in
+    let q = one-to-eight (b .n) (p .0) in
+    record { some = q .0; few = q .1; kinds = λ i g. belows.at (λ k. wellKind (jobAt b k)) (b .n) i (p .1) g }
+
+pub areas : (h : Handed) (b : Batch) → wellBatch b ≡ true → {r : ℕ} → r ≡ jobsAnswer h b → r ≡ 0 → Areas (h .frame) b (b .n)
 unfolding jobAnswer
-areas h b n l e z = record { frame = shown 0 (omega arith) .frame; few = l; each = λ i g. shown i g .area }
+areas h b w e z = record { frame = shown 0 (omega (arith, formed b w .some)) .frame; few = formed b w .few; each = λ i g. shown i g .area }
   where
     shown : (i : ℕ) → i < b .n → Front (h .frame) (lengthsIn h) (jobAt b i)
     shown i g =
@@ -50,25 +71,15 @@ areas h b n l e z = record { frame = shown 0 (omega arith) .frame; few = l; each
 
 -- THE BATCH'S WAYS OUT
 module _ (h : Handed) (b : Batch) where
-  pub no-jobs : b .n ≡ 0 → 12 ≡ batchAnswer h b
+  pub ill-formed : wellBatch b ≡ false → 12 ≡ batchAnswer h b
   unfolding batchAnswer
-  no-jobs e = rw (eq-eqb _ 0 e)
+  ill-formed w = rw w
 
-  module _ (n : b .n ≡ 0 → ⊥) where
-    pub too-many : 8 < b .n → 12 ≡ batchAnswer h b
+  module _ (w : wellBatch b ≡ true) {r : ℕ} (e : r ≡ jobsAnswer h b) where
+    pub job-refuses : (r ≡ 0 → ⊥) → r ≡ batchAnswer h b
     unfolding batchAnswer
-    too-many l = rw (ne-eqb _ 0 n, lt-ltb 8 _ l)
+    job-refuses m = rw w (e ∙ sym (or-refuses (jobsAnswer h b) _ (λ z. m (e ∙ z))))
 
-    module _ (l : b .n ≤ 8) where
-      pub ill-kinds : allBelow (b .n) (λ i. wellKind (jobAt b i)) ≡ false → 12 ≡ batchAnswer h b
-      unfolding batchAnswer
-      ill-kinds k = rw (ne-eqb _ 0 n, le-ltb 8 _ l, k)
-
-      module _ (k : allBelow (b .n) (λ i. wellKind (jobAt b i)) ≡ true) {r : ℕ} (e : r ≡ jobsAnswer h b) where
-        pub job-refuses : (r ≡ 0 → ⊥) → r ≡ batchAnswer h b
-        unfolding batchAnswer
-        job-refuses m = rw (ne-eqb _ 0 n, le-ltb 8 _ l, k) (e ∙ sym (or-refuses (jobsAnswer h b) _ (λ z. m (e ∙ z))))
-
-        pub by-windows : r ≡ 0 → pick (apart (h .frame) b) 0 11 ≡ batchAnswer h b
-        unfolding batchAnswer
-        by-windows z = rw (ne-eqb _ 0 n, le-ltb 8 _ l, k) (sym (or-accepts (jobsAnswer h b) _ (sym e ∙ z)))
+    pub by-windows : r ≡ 0 → pick (apart (h .frame) b) 0 11 ≡ batchAnswer h b
+    unfolding batchAnswer
+    by-windows z = rw w (sym (or-accepts (jobsAnswer h b) _ (sym e ∙ z)))

@@ -30,7 +30,7 @@ use Rattle.jobs.specs.declared.job.Job.{Job}
 use Rattle.jobs.specs.declared.job.Lengths.{Lengths}
 use Rattle.jobs.specs.Job.{isLoad, windowIn, countOf, jobFront}
 use Rattle.jobs.specs.Needs.{Able, Room}
-use Rattle.jobs.specs.Admit.{handed, lengthsIn, frontOf}
+use Rattle.jobs.specs.Admit.{Handed, lengthsIn, frontOf}
 
 -- of a job that its front accepts
 pub record Front (f : Frame) (n : Lengths) (j : Job) : Type 0 where
@@ -66,14 +66,9 @@ front f present n j z =
     save : isLoad j ≡ false → own ≡ 0 → saves.Front f (j .area) (n .recs) (n .saved)
     save e z = saves.front f (j .area) (j .pass) (n .recs) (n .saved) refl (sym (pick-false _ e) ∙ z)
 
--- lengths as the code has them are those of what is handed
-pub front-told : (f : Frame) (present : List ℕ) (fields : List (List ℕ)) (recs : List ℕ) (n : Lengths) (j : Job)
-    → (n .fields ≡ lengthsOf fields) × (n .recs ≡ length recs)
-    → {r : ℕ} → r ≡ jobFront f present n j → r ≡ frontOf (handed f present fields recs (n .proj) (n .saved)) j
-front-told f present fields recs n j p e = e ∙ ap (λ (m : Lengths). jobFront f present m j) same
-  where
-    same : n ≡ lengthsIn (handed f present fields recs (n .proj) (n .saved))
-    same = λ t. record { fields = p .0 t; recs = p .1 t; proj = n .proj; saved = n .saved }
+-- by lengths that are those of what is handed
+pub front-told : (h : Handed) (j : Job) {n : Lengths} {r : ℕ} → n ≡ lengthsIn h → r ≡ jobFront (h .frame) (h .present) n j → r ≡ frontOf h j
+front-told h j p e = e ∙ ap (λ (m : Lengths). jobFront (h .frame) (h .present) m j) p
 
 -- an area's rows end low, and so do those of the code's own window
 pub bottom-low : (f : Frame) (a : Area) → wellFrame f ≡ true → wellArea (f .sizes) a ≡ true → bottomOf (f .sizes) a ≤ 65536

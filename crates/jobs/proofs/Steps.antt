@@ -6,7 +6,7 @@ use mathlib.Core.List.{List, []}
 use Prim.Native.Nat.{ℕ, zero, suc, _+_, _<_}
 use native.Mathlib.Omega.{arith}
 use lib.Dec.{eqb, leb, ltb}
-use lib.ListN.{length, set}
+use lib.ListN.{length}
 use borrow.Author.Tests.{eq-eqb, ne-eqb, eqb-false, leb-true, ltb-true}
 use Rattle.ground.specs.Answer.{accepted}
 use Rattle.ground.specs.Pick.{pick}
@@ -23,7 +23,7 @@ use Rattle.jobs.specs.declared.step.Turned.{Turned}
 use Rattle.jobs.specs.Job.{isLoad, jobAt, wellKind, countOf, workRead, workScript, onProj, onSaved}
 use Rattle.jobs.specs.Needs.{Able, Room}
 use Rattle.jobs.specs.Admit.{Handed, lengthsIn, frontOf}
-use Rattle.jobs.specs.Step.{doneNumber, answerOf, stepNumber, stepDone, stepProj, stepSaved, withDone, names, turnNumber, turnProj, turnSaved, turnBatch}
+use Rattle.jobs.specs.Step.{doneNumber, answerOf, stepNumber, stepDone, stepProj, stepSaved, counted, names, turnNumber, turnProj, turnSaved, turnBatch}
 use Rattle.jobs.proofs.Fronts.{front, count-most}
 
 -- THE NUMBER'S FOUR WAYS OUT
@@ -137,7 +137,7 @@ accepted-same : (n : ℕ) (ps : List Patch) → ((n ≡ 0 → ⊥) → ps ≡ []
 accepted-same zero ps h = refl
 accepted-same (suc n) ps h = sym (h (λ e. omega arith))
 
-turned-to : {a c : Answer} {b d : Batch} → a ≡ c → b ≡ d → _≡_ {A = Turned} (record { answer = a; batch = b }) (record { answer = c; batch = d })
+pub turned-to : {a c : Answer} {b d : Batch} → a ≡ c → b ≡ d → _≡_ {A = Turned} (record { answer = a; batch = b }) (record { answer = c; batch = d })
 turned-to e q = λ t. record { answer = e t; batch = q t }
 
 module _ (h : Handed) (b : Batch) (k : ℕ) (proj saved : List ℕ) where
@@ -150,13 +150,12 @@ module _ (h : Handed) (b : Batch) (k : ℕ) (proj saved : List ℕ) where
   pub turned : names b k ≡ true → {s : Stepped} {t u : List ℕ}
       → s ≡ record { answer = answerOf (stepNumber h (jobAt b k)); done = stepDone h (jobAt b k) }
       → t ≡ run (stepProj h (jobAt b k)) proj → u ≡ run (stepSaved h (jobAt b k)) saved
-      → (_≡_ {A = Turned} (record { answer = s .answer; batch = record { n = b .n; jobs = set (b .jobs) k (withDone (jobAt b k) (s .done)) } })
-      (record { answer = answerOf (turnNumber h b k); batch = turnBatch h b k }))
+      → (_≡_ {A = Turned} (record { answer = s .answer; batch = counted b k (s .done) }) (record { answer = answerOf (turnNumber h b k); batch = turnBatch h b k }))
       × ((t ≡ run (turnProj h b k) proj) × (u ≡ run (turnSaved h b k) saved))
   unfolding turnNumber turnBatch turnProj turnSaved
   turned e {s} q p g =
       rw e (
-        turned-to (λ t. q t .answer) (λ t. record { n = b .n; jobs = set (b .jobs) k (withDone (jobAt b k) (q t .done)) }),
+        turned-to (λ t. q t .answer) (λ t. counted b k (q t .done)),
         (
           p ∙ ap (λ (x : List Patch). run x proj) (sym (accepted-same (stepNumber h (jobAt b k)) _ (proj-none h (jobAt b k)))),
           g ∙ ap (λ (x : List Patch). run x saved) (sym (accepted-same (stepNumber h (jobAt b k)) _ (saved-none h (jobAt b k)))),

@@ -1,8 +1,7 @@
 -- The admission of a batch (document 01, the order of refusals in a batch). It writes nothing.
 use Prim.Native.Nat.{ℕ}
-use mathlib.Core.Bool.{Bool, not, _||_}
+use mathlib.Core.Bool.{Bool, not}
 use mathlib.Core.List.{List}
-use lib.Dec.{eqb, ltb}
 use lib.ListN.{length}
 use Rattle.ground.specs.Answer.{orElse}
 use Rattle.ground.specs.Below.{allBelow}
@@ -13,7 +12,7 @@ use Rattle.loading.specs.Load.{lengthsOf}
 use Rattle.jobs.specs.declared.job.Job.{Job}
 use Rattle.jobs.specs.declared.job.Batch.{Batch}
 use Rattle.jobs.specs.declared.job.Lengths.{Lengths}
-use Rattle.jobs.specs.Job.{jobAt, wellKind, jobFront, jobReads}
+use Rattle.jobs.specs.Job.{jobAt, wellBatch, jobFront, jobReads}
 use Rattle.jobs.specs.Share.{meets}
 
 -- What a batch and each of its steps are handed beside the jobs: the frame's record, the present flags, the seven fields, the records, and two buffers to write,
@@ -49,6 +48,4 @@ apart f b = allBelow (b .n) (aloneAt f b)
 -- 12 over all jobs; then each job's own, of which 1 goes by the frame and the flags alone, so that the first job answers it for all; 11 last
 unfoldable pub batchAnswer : Handed → Batch → ℕ
 batchAnswer h b =
-    pick (eqb (b .n) 0 || ltb 8 (b .n)) 12
-    (pick (not (allBelow (b .n) (λ i. wellKind (jobAt b i)))) 12
-    (orElse (firstOf (λ i. jobAnswer h (jobAt b i)) 0 (b .n)) (pick (apart (h .frame) b) 0 11)))
+    pick (not (wellBatch b)) 12 (orElse (firstOf (λ i. jobAnswer h (jobAt b i)) 0 (b .n)) (pick (apart (h .frame) b) 0 11))

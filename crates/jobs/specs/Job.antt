@@ -4,13 +4,14 @@ use mathlib.Core.Bool.{Bool, _&&_, not}
 use mathlib.Core.List.{List, []}
 use lib.Dec.{eqb, leb, ltb}
 use lib.ListN.{getD}
+use Rattle.ground.specs.Below.{allBelow}
 use Rattle.ground.specs.Pick.{pick}
 use Rattle.ground.specs.Script.{Patch}
 use Rattle.ground.specs.Span.{firstOf}
 use Rattle.frame.specs.declared.record.Frame.{Frame}
 use Rattle.frame.specs.Description.{under}
 use Rattle.frame.specs.Record.{wellFrame}
-use Rattle.frame.specs.Sizes.{records}
+use Rattle.frame.specs.Sizes.{oneTo, records}
 use Rattle.rows.specs.Setup.{isPass}
 use Rattle.saving.specs.declared.area.Strip.{Strip}
 use Rattle.saving.specs.declared.area.Window.{Window}
@@ -80,3 +81,7 @@ noJob = record {
 
 abbrev pub jobAt : Batch → ℕ → Job
 jobAt b i = getD (b .jobs) i noJob
+
+-- What a batch is judged by first, over all its jobs (refusal 12): one to eight of them, each of a known kind and pass.
+unfoldable pub wellBatch : Batch → Bool
+wellBatch b = oneTo 8 (b .n) && allBelow (b .n) (λ i. wellKind (jobAt b i))

@@ -47,6 +47,10 @@ stepSaved h j = onSaved j (accepted (stepNumber h j) (workScript (h .frame) (h .
 abbrev pub withDone : Job → ℕ → Job
 withDone j k = record { kind = j .kind; area = j .area; sby = j .sby; pass = j .pass; done = k }
 
+-- and a batch with job k's
+abbrev pub counted : Batch → (k done : ℕ) → Batch
+counted b k done = record { n = b .n; jobs = set (b .jobs) k (withDone (jobAt b k) done) }
+
 -- A STEP OF A BATCH, naming job k of it; a number that names none is refused
 unfoldable pub names : Batch → ℕ → Bool
 names b k = leb (b .n) 8 && ltb k (b .n)
@@ -61,4 +65,4 @@ unfoldable pub turnSaved : Handed → Batch → ℕ → List Patch
 turnSaved h b k = accepted (turnNumber h b k) (stepSaved h (jobAt b k))
 
 unfoldable pub turnBatch : Handed → Batch → ℕ → Batch
-turnBatch h b k = pick (names b k) (record { n = b .n; jobs = set (b .jobs) k (withDone (jobAt b k) (stepDone h (jobAt b k))) }) b
+turnBatch h b k = pick (names b k) (counted b k (stepDone h (jobAt b k))) b

@@ -2,8 +2,8 @@
 use crate::front::job_front;
 use crate::job::Batch;
 use crate::job::Job;
-use crate::job::Lengths;
 use crate::job::count_of;
+use crate::job::lengths_of;
 use crate::share::do_meet;
 use crate::work::check_work;
 use frame::record::Frame;
@@ -11,12 +11,11 @@ ghost use mathlib.Core.Path.{_≡_};
 ghost use mathlib.Core.Bool.{true};
 ghost use Prim.Native.Nat.{_≤_, _<_};
 ghost use lib.ListN.{length};
-ghost use Rattle.ground.specs.Below.{allBelow};
 ghost use Rattle.ground.specs.Span.{firstOf};
 ghost use Rattle.frame.specs.Record.{wellFrame};
 ghost use Rattle.saving.specs.Area.{wellArea};
 ghost use Rattle.loading.specs.Load.{lengthsOf, lent};
-ghost use Rattle.jobs.specs.Job.{jobAt, wellKind, jobReads};
+ghost use Rattle.jobs.specs.Job.{jobAt, jobReads};
 ghost use Rattle.jobs.specs.Needs.{Able, Areas};
 ghost use Rattle.jobs.specs.Admit.{handed, jobAnswer, aloneAt, apart, batchAnswer};
 
@@ -52,7 +51,6 @@ fn check_reads<'a>(
 fn check_job<'a>(
     f: Frame,
     present: [u8; 7],
-    n: Lengths,
     job: Job,
     f0: &'a [u8],
     f1: &'a [u8],
@@ -62,10 +60,12 @@ fn check_job<'a>(
     f5: &'a [u8],
     f6: &'a [u8],
     recs: &[u8],
+    proj: usize,
+    saved: usize,
 ) -> u8
-    requires { ⌜ (n .fields ≡ lengthsOf (lent (now f0) (now f1) (now f2) (now f3) (now f4) (now f5) (now f6))) × (n .recs ≡ length (now recs)) ⌝ }
-    ensures { λ r. ⌜ r ≡ jobAnswer (handed f present (lent (now (f0 .entry)) (now (f1 .entry)) (now (f2 .entry)) (now (f3 .entry)) (now (f4 .entry)) (now (f5 .entry)) (now (f6 .entry))) (now (recs .entry)) (n .proj) (n .saved)) job ⌝ }
+    ensures { λ r. ⌜ r ≡ jobAnswer (handed f present (lent (now (f0 .entry)) (now (f1 .entry)) (now (f2 .entry)) (now (f3 .entry)) (now (f4 .entry)) (now (f5 .entry)) (now (f6 .entry))) (now (recs .entry)) proj saved) job ⌝ }
 {
+    let n = lengths_of(f0, f1, f2, f3, f4, f5, f6, recs, proj, saved);
     let front = job_front(f, present, n, job);
     if front != 0 {
         return front;
@@ -77,7 +77,6 @@ fn check_job<'a>(
 fn check_jobs<'a>(
     f: Frame,
     present: [u8; 7],
-    n: Lengths,
     batch: Batch,
     f0: &'a [u8],
     f1: &'a [u8],
@@ -87,36 +86,23 @@ fn check_jobs<'a>(
     f5: &'a [u8],
     f6: &'a [u8],
     recs: &[u8],
+    proj: usize,
+    saved: usize,
 ) -> u8
-    requires { ⌜ (n .fields ≡ lengthsOf (lent (now f0) (now f1) (now f2) (now f3) (now f4) (now f5) (now f6))) × (n .recs ≡ length (now recs)) × (batch .n ≤ 8) ⌝ }
-    ensures { λ r. ⌜ r ≡ firstOf (λ i. jobAnswer (handed f present (lent (now (f0 .entry)) (now (f1 .entry)) (now (f2 .entry)) (now (f3 .entry)) (now (f4 .entry)) (now (f5 .entry)) (now (f6 .entry))) (now (recs .entry)) (n .proj) (n .saved)) (jobAt batch i)) 0 (batch .n) ⌝ }
+    requires { ⌜ batch .n ≤ 8 ⌝ }
+    ensures { λ r. ⌜ r ≡ firstOf (λ i. jobAnswer (handed f present (lent (now (f0 .entry)) (now (f1 .entry)) (now (f2 .entry)) (now (f3 .entry)) (now (f4 .entry)) (now (f5 .entry)) (now (f6 .entry))) (now (recs .entry)) proj saved) (jobAt batch i)) 0 (batch .n) ⌝ }
 {
     let jobs = batch.jobs;
     let mut i: usize = 0;
     while i < batch.n {
-        let answer = check_job(f, present, n, jobs[i], f0, f1, f2, f3, f4, f5, f6, recs);
+        let j = jobs[i];
+        let answer = check_job(f, present, j, f0, f1, f2, f3, f4, f5, f6, recs, proj, saved);
         if answer != 0 {
             return answer;
         }
         i += 1;
     }
     0
-}
-
-fn are_kinds(batch: Batch) -> bool
-    requires { ⌜ batch .n ≤ 8 ⌝ }
-    ensures { λ r. ⌜ r ≡ allBelow (batch .n) (λ i. wellKind (jobAt batch i)) ⌝ }
-{
-    let jobs = batch.jobs;
-    let mut i: usize = 0;
-    while i < batch.n {
-        let job = jobs[i];
-        if !job.well_kind() {
-            return false;
-        }
-        i += 1;
-    }
-    true
 }
 
 // Whether no job before job j shares a cell with it.
@@ -167,31 +153,12 @@ pub fn admit<'a>(
 ) -> u8
     ensures { λ r. ⌜ r ≡ batchAnswer (handed f present (lent (now (f0 .entry)) (now (f1 .entry)) (now (f2 .entry)) (now (f3 .entry)) (now (f4 .entry)) (now (f5 .entry)) (now (f6 .entry))) (now (recs .entry)) (length (now (proj .entry))) (length (now (saved .entry)))) batch ⌝ }
 {
-    if batch.n == 0 {
+    if !batch.well_formed() {
         return 12;
     }
-    if 8 < batch.n {
-        return 12;
-    }
-    if !are_kinds(batch) {
-        return 12;
-    }
-    let fields = [
-        f0.len(),
-        f1.len(),
-        f2.len(),
-        f3.len(),
-        f4.len(),
-        f5.len(),
-        f6.len(),
-    ];
-    let n = Lengths {
-        fields,
-        recs: recs.len(),
-        proj: proj.len(),
-        saved: saved.len(),
-    };
-    let refusal = check_jobs(f, present, n, batch, f0, f1, f2, f3, f4, f5, f6, recs);
+    let n = proj.len();
+    let m = saved.len();
+    let refusal = check_jobs(f, present, batch, f0, f1, f2, f3, f4, f5, f6, recs, n, m);
     if refusal != 0 {
         return refusal;
     }

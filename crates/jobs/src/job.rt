@@ -1,15 +1,19 @@
 // The job's record, a batch of them, and what a step answers.
 use frame::record::Frame;
+use frame::sizes::one_to;
 use loading::step::steps_of;
 use loading::used::uses_of;
 use rows::setup::is_pass;
 use saving::area::Area;
 ghost use mathlib.Core.Path.{_≡_};
 ghost use mathlib.Core.Bool.{true};
-ghost use Prim.Native.Nat.{_-_};
+ghost use Prim.Native.Nat.{_-_, _≤_};
+ghost use lib.ListN.{length};
+ghost use Rattle.ground.specs.Below.{allBelow};
 ghost use Rattle.frame.specs.Record.{wellFrame};
 ghost use Rattle.saving.specs.Area.{wellArea};
-ghost use Rattle.jobs.specs.Job.{wellKind, countOf};
+ghost use Rattle.loading.specs.Load.{lengthsOf, lent};
+ghost use Rattle.jobs.specs.Job.{jobAt, wellKind, wellBatch, countOf};
 
 // kind is 0 for a load and 1 for a save. A load has no use for sby and pass; its pass is judged all
 // the same. done is how many of its steps are done.
@@ -50,6 +54,66 @@ impl Job {
             return false;
         }
         is_pass(self.pass)
+    }
+}
+
+fn are_kinds(batch: Batch) -> bool
+    requires { ⌜ batch .n ≤ 8 ⌝ }
+    ensures { λ r. ⌜ r ≡ allBelow (batch .n) (λ i. wellKind (jobAt batch i)) ⌝ }
+{
+    let jobs = batch.jobs;
+    let mut i: usize = 0;
+    while i < batch.n {
+        let job = jobs[i];
+        if !job.well_kind() {
+            return false;
+        }
+        i += 1;
+    }
+    true
+}
+
+impl Batch {
+    // Refusal 12 over all jobs, before anything else is judged.
+    pub fn well_formed(self) -> bool
+        ensures { λ r. ⌜ r ≡ wellBatch self ⌝ }
+    {
+        if one_to(8, self.n) {
+            return are_kinds(self);
+        }
+        false
+    }
+}
+
+// The two buffers that are written come by their lengths.
+pub(crate) fn lengths_of<'a>(
+    f0: &'a [u8],
+    f1: &'a [u8],
+    f2: &'a [u8],
+    f3: &'a [u8],
+    f4: &'a [u8],
+    f5: &'a [u8],
+    f6: &'a [u8],
+    recs: &[u8],
+    proj: usize,
+    saved: usize,
+) -> Lengths
+    ensures { λ r. ⌜ r ≡ record { fields = lengthsOf (lent (now (f0 .entry)) (now (f1 .entry)) (now (f2 .entry)) (now (f3 .entry)) (now (f4 .entry)) (now (f5 .entry)) (now (f6 .entry))); recs = length (now (recs .entry)); proj = proj; saved = saved } ⌝ }
+{
+    let fields = [
+        f0.len(),
+        f1.len(),
+        f2.len(),
+        f3.len(),
+        f4.len(),
+        f5.len(),
+        f6.len(),
+    ];
+    Lengths {
+        fields,
+        recs: recs.len(),
+        proj,
+        saved,
     }
 }
 

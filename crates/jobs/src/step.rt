@@ -3,17 +3,18 @@ use crate::front::job_front;
 use crate::job::Answer;
 use crate::job::Batch;
 use crate::job::Job;
-use crate::job::Lengths;
 use crate::job::count_of;
+use crate::job::lengths_of;
 use crate::work::check_work;
 use crate::work::do_work;
 use frame::record::Frame;
 ghost use mathlib.Core.Path.{_≡_};
+ghost use Prim.Native.Nat.{_<_};
 ghost use lib.ListN.{length};
 ghost use Rattle.ground.specs.Script.{run};
-ghost use Rattle.loading.specs.Load.{lengthsOf, lent};
+ghost use Rattle.loading.specs.Load.{lent};
 ghost use Rattle.jobs.specs.Admit.{handed};
-ghost use Rattle.jobs.specs.Step.{answerOf, numberOf, stepNumber, stepDone, stepProj, stepSaved, names, turnNumber, turnBatch, turnProj, turnSaved};
+ghost use Rattle.jobs.specs.Step.{answerOf, numberOf, stepNumber, stepDone, stepProj, stepSaved, counted, names, turnNumber, turnBatch, turnProj, turnSaved};
 
 // A job's answer, and its steps done afterwards.
 pub struct Stepped {
@@ -57,7 +58,6 @@ fn step_number<'a>(
     job: Job,
     f: Frame,
     present: [u8; 7],
-    n: Lengths,
     f0: &'a [u8],
     f1: &'a [u8],
     f2: &'a [u8],
@@ -66,13 +66,15 @@ fn step_number<'a>(
     f5: &'a [u8],
     f6: &'a [u8],
     recs: &[u8],
+    proj: usize,
+    saved: usize,
 ) -> u8
-    requires { ⌜ (n .fields ≡ lengthsOf (lent (now f0) (now f1) (now f2) (now f3) (now f4) (now f5) (now f6))) × (n .recs ≡ length (now recs)) ⌝ }
-    ensures { λ r. ⌜ r ≡ stepNumber (handed f present (lent (now (f0 .entry)) (now (f1 .entry)) (now (f2 .entry)) (now (f3 .entry)) (now (f4 .entry)) (now (f5 .entry)) (now (f6 .entry))) (now (recs .entry)) (n .proj) (n .saved)) job ⌝ }
+    ensures { λ r. ⌜ r ≡ stepNumber (handed f present (lent (now (f0 .entry)) (now (f1 .entry)) (now (f2 .entry)) (now (f3 .entry)) (now (f4 .entry)) (now (f5 .entry)) (now (f6 .entry))) (now (recs .entry)) proj saved) job ⌝ }
 {
     if !job.well_kind() {
         return 12;
     }
+    let n = lengths_of(f0, f1, f2, f3, f4, f5, f6, recs, proj, saved);
     let front = job_front(f, present, n, job);
     if front != 0 {
         return front;
@@ -103,46 +105,20 @@ pub fn step_row<'a>(
     ensures { λ _. ⌜ now (proj .exit) ≡ run (stepProj (handed f present (lent (now (f0 .entry)) (now (f1 .entry)) (now (f2 .entry)) (now (f3 .entry)) (now (f4 .entry)) (now (f5 .entry)) (now (f6 .entry))) (now (recs .entry)) (length (now (proj .entry))) (length (now (saved .entry)))) job) (now (proj .entry)) ⌝ }
     ensures { λ _. ⌜ now (saved .exit) ≡ run (stepSaved (handed f present (lent (now (f0 .entry)) (now (f1 .entry)) (now (f2 .entry)) (now (f3 .entry)) (now (f4 .entry)) (now (f5 .entry)) (now (f6 .entry))) (now (recs .entry)) (length (now (proj .entry))) (length (now (saved .entry)))) job) (now (saved .entry)) ⌝ }
 {
-    let fields = [
-        f0.len(),
-        f1.len(),
-        f2.len(),
-        f3.len(),
-        f4.len(),
-        f5.len(),
-        f6.len(),
-    ];
-    let n = Lengths {
-        fields,
-        recs: recs.len(),
-        proj: proj.len(),
-        saved: saved.len(),
-    };
-    let number = step_number(job, f, present, n, f0, f1, f2, f3, f4, f5, f6, recs);
+    let n = proj.len();
+    let m = saved.len();
+    let number = step_number(job, f, present, f0, f1, f2, f3, f4, f5, f6, recs, n, m);
+    let k = job.done;
     if number != 0 {
         return Stepped {
             answer: answer_of(number),
-            done: job.done,
+            done: k,
         };
     }
-    do_work(
-        f,
-        job,
-        job.done,
-        f0,
-        f1,
-        f2,
-        f3,
-        f4,
-        f5,
-        f6,
-        recs,
-        proj,
-        saved,
-    );
+    do_work(f, job, k, f0, f1, f2, f3, f4, f5, f6, recs, proj, saved);
     Stepped {
         answer: Answer::Moved,
-        done: job.done + 1,
+        done: k + 1,
     }
 }
 
@@ -153,6 +129,19 @@ fn is_named(batch: Batch, k: usize) -> bool
         return false;
     }
     k < batch.n
+}
+
+// The batch with so many of job k's steps done.
+fn with_done(batch: Batch, k: usize, done: usize) -> Batch
+    requires { ⌜ k < 8 ⌝ }
+    ensures { λ r. ⌜ r ≡ counted batch k done ⌝ }
+{
+    let mut jobs = batch.jobs;
+    let mut job = jobs[k];
+    job.done = done;
+    jobs[k] = job;
+    let n = batch.n;
+    Batch { n, jobs }
 }
 
 // Steps job k of a batch: the batch afterwards has that job's steps done.
@@ -182,30 +171,12 @@ pub fn step_of<'a>(
             batch,
         };
     }
-    let mut jobs = batch.jobs;
-    let mut job = jobs[k];
-    let s = step_row(
-        job,
-        f,
-        present,
-        f0,
-        f1,
-        f2,
-        f3,
-        f4,
-        f5,
-        f6,
-        recs,
-        proj,
-        saved,
-    );
+    let jobs = batch.jobs;
+    let j = jobs[k];
+    let s = step_row(j, f, present, f0, f1, f2, f3, f4, f5, f6, recs, proj, saved);
     let answer = s.answer;
-    job.done = s.done;
-    jobs[k] = job;
-    let n = batch.n;
-    let stepped = Batch { n, jobs };
     Turned {
         answer,
-        batch: stepped,
+        batch: with_done(batch, k, s.done),
     }
 }

@@ -1,12 +1,10 @@
 -- What an admitted batch is: each job accepted, each row of its work readable, no two windows with a cell in common.
 -- Assumes nothing.
 use mathlib.Core.Path.{_≡_, refl}
-use mathlib.Core.Bool.{Bool, true, false, true≢false, not, _||_}
-use Prim.Native.Nat.{ℕ, zero, suc, _≤_, _<_}
+use mathlib.Core.Bool.{Bool, true, false, not}
+use Prim.Native.Nat.{ℕ, _≤_, _<_}
 use native.Mathlib.Omega.{arith}
-use lib.Dec.{eqb, ltb}
-use borrow.Author.Tests.{ltb-false, eqb-false, not-true, not-false}
-use Rattle.ground.specs.Below.{allBelow}
+use borrow.Author.Tests.{not-true, not-false}
 use Rattle.ground.specs.Pick.{pick}
 use Rattle.ground.specs.Span.{firstOf}
 use Rattle.ground.proofs.Answers.{refused-not, both-accept}
@@ -21,8 +19,9 @@ use Rattle.saving.proofs.Areas as areas
 use Rattle.jobs.specs.declared.job.Job.{Job}
 use Rattle.jobs.specs.declared.job.Batch.{Batch}
 use Rattle.jobs.specs.Admit.{Handed, lengthsIn, frontOf, jobAnswer, aloneAt, apart, batchAnswer}
-use Rattle.jobs.specs.Job.{jobAt, wellKind, countOf, workRead, jobReads}
+use Rattle.jobs.specs.Job.{jobAt, wellKind, wellBatch, countOf, workRead, jobReads}
 use Rattle.jobs.specs.Share.{meets}
+use Rattle.jobs.proofs.Admits.{formed}
 use Rattle.jobs.proofs.Fronts.{front}
 use Rattle.jobs.proofs.Shared.{Framed, Walked}
 
@@ -58,25 +57,16 @@ pub record Accepted (h : Handed) (b : Batch) : Type 0 where
 pub accepted : (h : Handed) (b : Batch) → batchAnswer h b ≡ 0 → Accepted h b
 unfolding batchAnswer apart aloneAt
 accepted h b z =
-    let p = refused-not (eqb (b .n) 0 || ltb 8 (b .n)) 11 _ z in
-    let q = refused-not (not (allBelow (b .n) (λ i. wellKind (jobAt b i)))) 11 _ (p .1) in
-    let r = both-accept (firstOf (λ i. jobAnswer h (jobAt b i)) 0 (b .n)) (pick (apart (h .frame) b) 0 11) (q .1) in
-    let n = or-none (eqb (b .n) 0) (ltb 8 (b .n)) (p .0) in
+    let p = refused-not (not (wellBatch b)) 11 _ z in
+    let r = both-accept (firstOf (λ i. jobAnswer h (jobAt b i)) 0 (b .n)) (pick (apart (h .frame) b) 0 11) (p .1) in
+    let w = formed b (not-false _ (p .0)) in
     record {
-      some = positive (b .n) (eqb-false (b .n) 0 (n .0));
-      few = ltb-false 8 (b .n) (n .1);
-      each = λ i l. fit h (jobAt b i) (belows.at (λ i. wellKind (jobAt b i)) (b .n) i (not-false _ (q .0)) l) (spans.all-accept (λ i. jobAnswer h (jobAt b i)) 0 (b .n) i (r .0) (omega arith) l);
+      some = w .some;
+      few = w .few;
+      each = λ i l. fit h (jobAt b i) (w .kinds i l) (spans.all-accept (λ i. jobAnswer h (jobAt b i)) 0 (b .n) i (r .0) (omega arith) l);
       alone = λ i j l m. not-true _ (belows.at (λ i. not (meets (h .frame) (jobAt b i) (jobAt b j))) j i (belows.at (aloneAt (h .frame) b) (b .n) j (yes-of (apart (h .frame) b) (r .1)) m) l);
     }
   where
-    or-none : (x y : Bool) → (x || y) ≡ false → (x ≡ false) × (y ≡ false)
-    or-none true y e = absurd (true≢false e)
-    or-none false y e = (refl, e)
-
-    positive : (n : ℕ) → (n ≡ 0 → ⊥) → 0 < n
-    positive zero f = absurd (f refl)
-    positive (suc n) f = omega arith
-
     yes-of : (x : Bool) → _≡_ {A = ℕ} (pick x 0 11) 0 → x ≡ true
     yes-of true e = refl
     yes-of false e = absurd (omega arith)

@@ -32,26 +32,12 @@ pub fn play<'a>(
 ) -> Batch
     ensures { λ r. ⌜ desk r (now (proj .exit)) (now (saved .exit)) ≡ plays (given f present (lent (now (f0 .entry)) (now (f1 .entry)) (now (f2 .entry)) (now (f3 .entry)) (now (f4 .entry)) (now (f5 .entry)) (now (f6 .entry))) (now (recs .entry))) (now (steps .entry)) (desk batch (now (proj .entry)) (now (saved .entry))) ⌝ }
 {
+    let p = present;
     let mut on = batch;
     let mut i: usize = 0;
     while i < steps.len() {
         let k = job_of(steps[i]);
-        let turned = step_of(
-            on,
-            k,
-            f,
-            present,
-            f0,
-            f1,
-            f2,
-            f3,
-            f4,
-            f5,
-            f6,
-            recs,
-            proj,
-            saved,
-        );
+        let turned = step_of(on, k, f, p, f0, f1, f2, f3, f4, f5, f6, recs, proj, saved);
         on = turned.batch;
         i += 1;
     }

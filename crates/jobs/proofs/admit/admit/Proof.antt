@@ -7,56 +7,48 @@ use denote.Ref.{now}
 use Rattle.ground.proofs.Picks.{pick-true, pick-false}
 use Rattle.loading.specs.Load.{lent}
 use Rattle.jobs.specs.Admit.{handed}
-use Rattle.jobs.proofs.Admits.{areas, no-jobs, too-many, ill-kinds, job-refuses, by-windows}
+use Rattle.jobs.proofs.Admits.{formed, areas, ill-formed, job-refuses, by-windows}
 use borrow.Author.Needs.{needs}
 use Rattle.jobs.proofs.admit.admit.Statement.{statement}
 use Rattle.jobs.proofs.admit.admit.Tie as tie
 
+well-formed-requires : tie.Need-well-formed-requires
+well-formed-requires c κs = search needs
+
 returns : tie.Need-returns
-returns c = no-jobs _ _ (c .if1 .taken)
-
-returns-2 : tie.Need-returns-2
-returns-2 c = too-many _ _ (c .before .before .if1 .left) (c .if2 .taken)
-
-are-kinds-requires : tie.Need-are-kinds-requires
-are-kinds-requires c κs = search needs
-
-returns-3 : tie.Need-returns-3
-returns-3 c = ill-kinds _ _ (c .before .before .before .before .if1 .left) (c .before .before .if2 .left) (sym (c .before .are-kinds .ensures) ∙ not-true _ (c .if3 .taken))
+returns c = ill-formed _ _ (sym (c .before .well-formed .ensures) ∙ not-true _ (c .if1 .taken))
 
 check-jobs-requires : tie.Need-check-jobs-requires
-check-jobs-requires c κs = search needs
+check-jobs-requires c κs = formed (c .before .before .before .before .before .before .before .before .before .before .before .before .args .batch) (sym (c .before .well-formed .ensures) ∙ not-false _ (c .if1 .left)) .few
 
-returns-4 : tie.Need-returns-4
-returns-4 c =
-    let s = c .before .before .before .before .before .before .before .before .before .before .before .before .before .before .before .before .before .before in
-    job-refuses (handed (s .args .f) (s .args .present) (lent (now (s .args .f0)) (now (s .args .f1)) (now (s .args .f2)) (now (s .args .f3)) (now (s .args .f4)) (now (s .args .f5)) (now (s .args .f6))) (now (s .args .recs)) (length (now (s .args .proj))) (length (now (s .args .saved)))) (s .args .batch) (c .before .before .before .before .before .before .if1 .left) (c .before .before .before .before .if2 .left) (sym (c .before .before .before .are-kinds .ensures) ∙ not-false _ (c .before .before .if3 .left)) (c .before .check-jobs .ensures) (c .if4 .taken)
+returns-2 : tie.Need-returns-2
+returns-2 c =
+    let s = c .before .before .before .before .before .before .before .before .before .before .before .before .before .before .args in
+    job-refuses (handed (s .f) (s .present) (lent (now (s .f0)) (now (s .f1)) (now (s .f2)) (now (s .f3)) (now (s .f4)) (now (s .f5)) (now (s .f6))) (now (s .recs)) (length (now (s .proj))) (length (now (s .saved)))) (s .batch) (sym (c .before .before .before .well-formed .ensures) ∙ not-false _ (c .before .before .if1 .left)) (c .before .check-jobs .ensures) (c .if2 .taken)
 
 are-apart-requires : tie.Need-are-apart-requires
 are-apart-requires c κs =
-    let s = c .before .before .before .before .before .before .before .before .before .before .before .before .before .before .before .before .before .before in
-    areas (handed (s .args .f) (s .args .present) (lent (now (s .args .f0)) (now (s .args .f1)) (now (s .args .f2)) (now (s .args .f3)) (now (s .args .f4)) (now (s .args .f5)) (now (s .args .f6))) (now (s .args .recs)) (length (now (s .args .proj))) (length (now (s .args .saved)))) (s .args .batch) (c .before .before .before .before .before .before .if1 .left) (c .before .before .before .before .if2 .left) (c .before .check-jobs .ensures) (c .if4 .left)
+    let s = c .before .before .before .before .before .before .before .before .before .before .before .before .before .before .args in
+    areas (handed (s .f) (s .present) (lent (now (s .f0)) (now (s .f1)) (now (s .f2)) (now (s .f3)) (now (s .f4)) (now (s .f5)) (now (s .f6))) (now (s .recs)) (length (now (s .proj))) (length (now (s .saved)))) (s .batch) (sym (c .before .before .before .well-formed .ensures) ∙ not-false _ (c .before .before .if1 .left)) (c .before .check-jobs .ensures) (c .if2 .left)
 
-returns-5 : tie.Need-returns-5
-returns-5 c =
-    let s = c .before .before .before .before .before .before .before .before .before .before .before .before .before .before .before .before .before .before .before .before in
-    sym (pick-true 11 (sym (c .before .are-apart .ensures) ∙ c .if5 .taken)) ∙ by-windows (handed (s .args .f) (s .args .present) (lent (now (s .args .f0)) (now (s .args .f1)) (now (s .args .f2)) (now (s .args .f3)) (now (s .args .f4)) (now (s .args .f5)) (now (s .args .f6))) (now (s .args .recs)) (length (now (s .args .proj))) (length (now (s .args .saved)))) (s .args .batch) (c .before .before .before .before .before .before .before .before .if1 .left) (c .before .before .before .before .before .before .if2 .left) (sym (c .before .before .before .before .before .are-kinds .ensures) ∙ not-false _ (c .before .before .before .before .if3 .left)) (c .before .before .before .check-jobs .ensures) (c .before .before .if4 .left)
+returns-3 : tie.Need-returns-3
+returns-3 c =
+    let s = c .before .before .before .before .before .before .before .before .before .before .before .before .before .before .before .before .args in
+    sym (pick-true 11 (sym (c .before .are-apart .ensures) ∙ c .if3 .taken)) ∙ by-windows (handed (s .f) (s .present) (lent (now (s .f0)) (now (s .f1)) (now (s .f2)) (now (s .f3)) (now (s .f4)) (now (s .f5)) (now (s .f6))) (now (s .recs)) (length (now (s .proj))) (length (now (s .saved)))) (s .batch) (sym (c .before .before .before .before .before .well-formed .ensures) ∙ not-false _ (c .before .before .before .before .if1 .left)) (c .before .before .before .check-jobs .ensures) (c .before .before .if2 .left)
 
-returns-6 : tie.Need-returns-6
-returns-6 c =
-    let s = c .before .before .before .before .before .before .before .before .before .before .before .before .before .before .before .before .before .before .before .before in
-    sym (pick-false 0 (sym (c .before .are-apart .ensures) ∙ c .if5 .left)) ∙ by-windows (handed (s .args .f) (s .args .present) (lent (now (s .args .f0)) (now (s .args .f1)) (now (s .args .f2)) (now (s .args .f3)) (now (s .args .f4)) (now (s .args .f5)) (now (s .args .f6))) (now (s .args .recs)) (length (now (s .args .proj))) (length (now (s .args .saved)))) (s .args .batch) (c .before .before .before .before .before .before .before .before .if1 .left) (c .before .before .before .before .before .before .if2 .left) (sym (c .before .before .before .before .before .are-kinds .ensures) ∙ not-false _ (c .before .before .before .before .if3 .left)) (c .before .before .before .check-jobs .ensures) (c .before .before .if4 .left)
+returns-4 : tie.Need-returns-4
+returns-4 c =
+    let s = c .before .before .before .before .before .before .before .before .before .before .before .before .before .before .before .before .args in
+    sym (pick-false 0 (sym (c .before .are-apart .ensures) ∙ c .if3 .left)) ∙ by-windows (handed (s .f) (s .present) (lent (now (s .f0)) (now (s .f1)) (now (s .f2)) (now (s .f3)) (now (s .f4)) (now (s .f5)) (now (s .f6))) (now (s .recs)) (length (now (s .proj))) (length (now (s .saved)))) (s .batch) (sym (c .before .before .before .before .before .well-formed .ensures) ∙ not-false _ (c .before .before .before .before .if1 .left)) (c .before .before .before .check-jobs .ensures) (c .before .before .if2 .left)
 
 pub admit-spec : {M : Type 1} → statement M
 admit-spec =
     tie.close
     (tie.spec
+    well-formed-requires
     returns
-    returns-2
-    are-kinds-requires
-    returns-3
     check-jobs-requires
-    returns-4
+    returns-2
     are-apart-requires
-    returns-5
-    returns-6)
+    returns-3
+    returns-4)

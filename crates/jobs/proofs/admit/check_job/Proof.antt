@@ -9,23 +9,31 @@ use borrow.Author.Needs.{needs}
 use Rattle.jobs.proofs.admit.check_job.Statement.{statement}
 use Rattle.jobs.proofs.admit.check_job.Tie as tie
 
+lengths-of-requires : tie.Need-lengths-of-requires
+lengths-of-requires c κs = search needs
+
 job-front-requires : tie.Need-job-front-requires
 job-front-requires c κs = search needs
 
 returns : tie.Need-returns
 returns c =
-    let s = c .before .before .before .before .before .before .before .before .before .before in
-    front-answers (handed (s .args .f) (s .args .present) (lent (now (s .args .f0)) (now (s .args .f1)) (now (s .args .f2)) (now (s .args .f3)) (now (s .args .f4)) (now (s .args .f5)) (now (s .args .f6))) (now (s .args .recs)) (s .args .n .proj) (s .args .n .saved)) (s .args .job) (front-told _ _ (lent (now (s .args .f0)) (now (s .args .f1)) (now (s .args .f2)) (now (s .args .f3)) (now (s .args .f4)) (now (s .args .f5)) (now (s .args .f6))) (now (s .args .recs)) (s .args .n) _ (s .pre) (c .before .job-front .ensures)) (c .if1 .taken)
+    let s = c .before .before .before .before .before .before .before .before .before .before .before .args in
+    let h = handed (s .f) (s .present) (lent (now (s .f0)) (now (s .f1)) (now (s .f2)) (now (s .f3)) (now (s .f4)) (now (s .f5)) (now (s .f6))) (now (s .recs)) (s .proj) (s .saved) in
+    front-answers h (s .job) (front-told h (s .job) (c .before .before .lengths-of .ensures) (c .before .job-front .ensures)) (c .if1 .taken)
 
 check-reads-requires : tie.Need-check-reads-requires
 check-reads-requires c κs =
-    let s = c .before .before .before .before .before .before .before .before .before .before in
-    to-check (handed (s .args .f) (s .args .present) (lent (now (s .args .f0)) (now (s .args .f1)) (now (s .args .f2)) (now (s .args .f3)) (now (s .args .f4)) (now (s .args .f5)) (now (s .args .f6))) (now (s .args .recs)) (s .args .n .proj) (s .args .n .saved)) (s .args .job) (front-told _ _ (lent (now (s .args .f0)) (now (s .args .f1)) (now (s .args .f2)) (now (s .args .f3)) (now (s .args .f4)) (now (s .args .f5)) (now (s .args .f6))) (now (s .args .recs)) (s .args .n) _ (s .pre) (c .before .job-front .ensures)) (c .if1 .left)
+    let s = c .before .before .before .before .before .before .before .before .before .before .before .args in
+    let h = handed (s .f) (s .present) (lent (now (s .f0)) (now (s .f1)) (now (s .f2)) (now (s .f3)) (now (s .f4)) (now (s .f5)) (now (s .f6))) (now (s .recs)) (s .proj) (s .saved) in
+    to-check h (s .job) (front-told h (s .job) (c .before .before .lengths-of .ensures) (c .before .job-front .ensures)) (c .if1 .left)
 
 returns-2 : tie.Need-returns-2
 returns-2 c =
-    let s = c .before .before .before .before .before .before .before .before .before .before .before in
-    reads-answer (handed (s .args .f) (s .args .present) (lent (now (s .args .f0)) (now (s .args .f1)) (now (s .args .f2)) (now (s .args .f3)) (now (s .args .f4)) (now (s .args .f5)) (now (s .args .f6))) (now (s .args .recs)) (s .args .n .proj) (s .args .n .saved)) (s .args .job) (front-told _ _ (lent (now (s .args .f0)) (now (s .args .f1)) (now (s .args .f2)) (now (s .args .f3)) (now (s .args .f4)) (now (s .args .f5)) (now (s .args .f6))) (now (s .args .recs)) (s .args .n) _ (s .pre) (c .before .before .job-front .ensures)) (c .before .if1 .left) (c .check-reads .ensures)
+    let s = c .before .before .before .before .before .before .before .before .before .before .before .before .args in
+    let h = handed (s .f) (s .present) (lent (now (s .f0)) (now (s .f1)) (now (s .f2)) (now (s .f3)) (now (s .f4)) (now (s .f5)) (now (s .f6))) (now (s .recs)) (s .proj) (s .saved) in
+    reads-answer h (s .job) (front-told h (s .job) (c .before .before .before .lengths-of .ensures) (c .before .before .job-front .ensures)) (c .before .if1 .left) (c .check-reads .ensures)
 
 pub check-job-spec : {M : Type 1} → statement M
-check-job-spec = tie.close (tie.spec job-front-requires returns check-reads-requires returns-2)
+check-job-spec =
+    tie.close
+    (tie.spec lengths-of-requires job-front-requires returns check-reads-requires returns-2)

@@ -17,31 +17,38 @@ well-kind-requires c κs = search needs
 returns : tie.Need-returns
 returns c = ill-kind _ _ (sym (c .before .well-kind .ensures) ∙ not-true _ (c .if1 .taken))
 
+lengths-of-requires : tie.Need-lengths-of-requires
+lengths-of-requires c κs = search needs
+
 job-front-requires : tie.Need-job-front-requires
 job-front-requires c κs = search needs
 
 returns-2 : tie.Need-returns-2
 returns-2 c =
-    let s = c .before .before .before .before .before .before .before .before .before .before .before .before in
-    front-stops (handed (s .args .f) (s .args .present) (lent (now (s .args .f0)) (now (s .args .f1)) (now (s .args .f2)) (now (s .args .f3)) (now (s .args .f4)) (now (s .args .f5)) (now (s .args .f6))) (now (s .args .recs)) (s .args .n .proj) (s .args .n .saved)) (s .args .job) (sym (c .before .before .before .well-kind .ensures) ∙ not-false _ (c .before .before .if1 .left)) (front-told _ _ (lent (now (s .args .f0)) (now (s .args .f1)) (now (s .args .f2)) (now (s .args .f3)) (now (s .args .f4)) (now (s .args .f5)) (now (s .args .f6))) (now (s .args .recs)) (s .args .n) _ (s .pre) (c .before .job-front .ensures)) (c .if2 .taken)
+    let s = c .before .before .before .before .before .before .before .before .before .before .before .before .before .args in
+    let h = handed (s .f) (s .present) (lent (now (s .f0)) (now (s .f1)) (now (s .f2)) (now (s .f3)) (now (s .f4)) (now (s .f5)) (now (s .f6))) (now (s .recs)) (s .proj) (s .saved) in
+    front-stops h (s .job) (sym (c .before .before .before .before .well-kind .ensures) ∙ not-false _ (c .before .before .before .if1 .left)) (front-told h (s .job) (c .before .before .lengths-of .ensures) (c .before .job-front .ensures)) (c .if2 .taken)
 
 count-of-requires : tie.Need-count-of-requires
 count-of-requires c κs = let p = front _ _ _ _ (sym (c .before .job-front .ensures) ∙ c .if2 .left) in (p .frame, p .area)
 
 returns-3 : tie.Need-returns-3
 returns-3 c =
-    let s = c .before .before .before .before .before .before .before .before .before .before .before .before .before .before .before in
-    is-done (handed (s .args .f) (s .args .present) (lent (now (s .args .f0)) (now (s .args .f1)) (now (s .args .f2)) (now (s .args .f3)) (now (s .args .f4)) (now (s .args .f5)) (now (s .args .f6))) (now (s .args .recs)) (s .args .n .proj) (s .args .n .saved)) (s .args .job) (sym (c .before .before .before .before .before .before .well-kind .ensures) ∙ not-false _ (c .before .before .before .before .before .if1 .left)) (front-told _ _ (lent (now (s .args .f0)) (now (s .args .f1)) (now (s .args .f2)) (now (s .args .f3)) (now (s .args .f4)) (now (s .args .f5)) (now (s .args .f6))) (now (s .args .recs)) (s .args .n) _ (s .pre) (c .before .before .before .before .job-front .ensures)) (c .before .before .before .if2 .left) (c .before .before .count-of .ensures) (c .if3 .taken)
+    let s = c .before .before .before .before .before .before .before .before .before .before .before .before .before .before .before .before .args in
+    let h = handed (s .f) (s .present) (lent (now (s .f0)) (now (s .f1)) (now (s .f2)) (now (s .f3)) (now (s .f4)) (now (s .f5)) (now (s .f6))) (now (s .recs)) (s .proj) (s .saved) in
+    is-done h (s .job) (sym (c .before .before .before .before .before .before .before .well-kind .ensures) ∙ not-false _ (c .before .before .before .before .before .before .if1 .left)) (front-told h (s .job) (c .before .before .before .before .before .lengths-of .ensures) (c .before .before .before .before .job-front .ensures)) (c .before .before .before .if2 .left) (c .before .before .count-of .ensures) (c .if3 .taken)
 
 check-work-requires : tie.Need-check-work-requires
 check-work-requires c κs =
-    let s = c .before .before .before .before .before .before .before .before .before .before .before .before .before .before .before in
-    to-read (handed (s .args .f) (s .args .present) (lent (now (s .args .f0)) (now (s .args .f1)) (now (s .args .f2)) (now (s .args .f3)) (now (s .args .f4)) (now (s .args .f5)) (now (s .args .f6))) (now (s .args .recs)) (s .args .n .proj) (s .args .n .saved)) (s .args .job) (front-told _ _ (lent (now (s .args .f0)) (now (s .args .f1)) (now (s .args .f2)) (now (s .args .f3)) (now (s .args .f4)) (now (s .args .f5)) (now (s .args .f6))) (now (s .args .recs)) (s .args .n) _ (s .pre) (c .before .before .before .before .job-front .ensures)) (c .before .before .before .if2 .left) (c .before .before .count-of .ensures) (c .if3 .left)
+    let s = c .before .before .before .before .before .before .before .before .before .before .before .before .before .before .before .before .args in
+    let h = handed (s .f) (s .present) (lent (now (s .f0)) (now (s .f1)) (now (s .f2)) (now (s .f3)) (now (s .f4)) (now (s .f5)) (now (s .f6))) (now (s .recs)) (s .proj) (s .saved) in
+    to-read h (s .job) (front-told h (s .job) (c .before .before .before .before .before .lengths-of .ensures) (c .before .before .before .before .job-front .ensures)) (c .before .before .before .if2 .left) (c .before .before .count-of .ensures) (c .if3 .left)
 
 returns-4 : tie.Need-returns-4
 returns-4 c =
-    let s = c .before .before .before .before .before .before .before .before .before .before .before .before .before .before .before .before in
-    row-answers (handed (s .args .f) (s .args .present) (lent (now (s .args .f0)) (now (s .args .f1)) (now (s .args .f2)) (now (s .args .f3)) (now (s .args .f4)) (now (s .args .f5)) (now (s .args .f6))) (now (s .args .recs)) (s .args .n .proj) (s .args .n .saved)) (s .args .job) (sym (c .before .before .before .before .before .before .before .well-kind .ensures) ∙ not-false _ (c .before .before .before .before .before .before .if1 .left)) (front-told _ _ (lent (now (s .args .f0)) (now (s .args .f1)) (now (s .args .f2)) (now (s .args .f3)) (now (s .args .f4)) (now (s .args .f5)) (now (s .args .f6))) (now (s .args .recs)) (s .args .n) _ (s .pre) (c .before .before .before .before .before .job-front .ensures)) (c .before .before .before .before .if2 .left) (c .before .before .before .count-of .ensures) (c .before .if3 .left) (c .check-work .ensures)
+    let s = c .before .before .before .before .before .before .before .before .before .before .before .before .before .before .before .before .before .args in
+    let h = handed (s .f) (s .present) (lent (now (s .f0)) (now (s .f1)) (now (s .f2)) (now (s .f3)) (now (s .f4)) (now (s .f5)) (now (s .f6))) (now (s .recs)) (s .proj) (s .saved) in
+    row-answers h (s .job) (sym (c .before .before .before .before .before .before .before .before .well-kind .ensures) ∙ not-false _ (c .before .before .before .before .before .before .before .if1 .left)) (front-told h (s .job) (c .before .before .before .before .before .before .lengths-of .ensures) (c .before .before .before .before .before .job-front .ensures)) (c .before .before .before .before .if2 .left) (c .before .before .before .count-of .ensures) (c .before .if3 .left) (c .check-work .ensures)
 
 pub step-number-spec : {M : Type 1} → statement M
 step-number-spec =
@@ -49,6 +56,7 @@ step-number-spec =
     (tie.spec
     well-kind-requires
     returns
+    lengths-of-requires
     job-front-requires
     returns-2
     count-of-requires

@@ -1,12 +1,12 @@
 -- `jobs::step::step_of` meets its contract.
 -- Assumes nothing.
-use mathlib.Core.Path.{sym, _∙_}
+use mathlib.Core.Path.{refl, sym, _∙_}
 use lib.ListN.{length}
 use borrow.Author.Tests.{not-true, not-false}
 use denote.Ref.{now}
 use Rattle.loading.specs.Load.{lent}
 use Rattle.jobs.specs.Admit.{handed}
-use Rattle.jobs.proofs.Steps.{named, unnamed, turned}
+use Rattle.jobs.proofs.Steps.{named, unnamed, turned-to, turned}
 use borrow.Author.Needs.{needs}
 use Rattle.jobs.proofs.step.step_of.Statement.{statement}
 use Rattle.jobs.proofs.step.step_of.Tie as tie
@@ -16,23 +16,20 @@ is-named-requires c κs = search needs
 
 returns : tie.Need-returns
 returns c =
-    let s = c .before .before .before .before .before .before .before .before .before .before .before .before in
-    unnamed (handed (s .args .f) (s .args .present) (lent (now (s .args .f0)) (now (s .args .f1)) (now (s .args .f2)) (now (s .args .f3)) (now (s .args .f4)) (now (s .args .f5)) (now (s .args .f6))) (now (s .args .recs)) (length (now (s .args .proj))) (length (now (s .args .saved)))) (s .args .batch) (s .args .k) (now (s .args .proj)) (now (s .args .saved)) (sym (c .before .is-named .ensures) ∙ not-true _ (c .if1 .taken))
+    let s = c .before .before .before .before .before .before .before .before .before .before .before .before .args in
+    unnamed (handed (s .f) (s .present) (lent (now (s .f0)) (now (s .f1)) (now (s .f2)) (now (s .f3)) (now (s .f4)) (now (s .f5)) (now (s .f6))) (now (s .recs)) (length (now (s .proj))) (length (now (s .saved)))) (s .batch) (s .k) (now (s .proj)) (now (s .saved)) (sym (c .before .is-named .ensures) ∙ not-true _ (c .if1 .taken))
 
-mul-job : tie.Need-mul-job
-mul-job c = let s = c .before .before .before .before .before .before .before .before .before .before .before .before .before in let g = named (s .args .batch) (s .args .k) (sym (c .before .before .is-named .ensures) ∙ not-false _ (c .before .if1 .left)) in search needs
+mul-j : tie.Need-mul-j
+mul-j c = let g = named (c .before .before .before .before .before .before .before .before .before .before .before .before .before .args .batch) (c .before .before .before .before .before .before .before .before .before .before .before .before .before .args .k) (sym (c .before .before .is-named .ensures) ∙ not-false _ (c .before .if1 .left)) in search needs
 
-array-copy-out-job : tie.Need-array-copy-out-job
-array-copy-out-job c = let s = c .before .before .before .before .before .before .before .before .before .before .before .before .before in named (s .args .batch) (s .args .k) (sym (c .before .before .is-named .ensures) ∙ not-false _ (c .before .if1 .left))
+array-copy-out-j : tie.Need-array-copy-out-j
+array-copy-out-j c = named (c .before .before .before .before .before .before .before .before .before .before .before .before .before .args .batch) (c .before .before .before .before .before .before .before .before .before .before .before .before .before .args .k) (sym (c .before .before .is-named .ensures) ∙ not-false _ (c .before .if1 .left))
 
 step-row-requires : tie.Need-step-row-requires
 step-row-requires c κs = search needs
 
-mul-jobs : tie.Need-mul-jobs
-mul-jobs c = let s = c .before .before .before .before .before .before .before .before .before .before .before .before .before .before .before .before .before .before .before .before .before in let g = named (s .args .batch) (s .args .k) (sym (c .before .before .before .before .before .before .before .before .before .before .is-named .ensures) ∙ not-false _ (c .before .before .before .before .before .before .before .before .before .if1 .left)) in search needs
-
-array-set-from-jobs : tie.Need-array-set-from-jobs
-array-set-from-jobs c = let s = c .before .before .before .before .before .before .before .before .before .before .before .before .before .before .before .before .before .before .before .before .before in named (s .args .batch) (s .args .k) (sym (c .before .before .before .before .before .before .before .before .before .before .is-named .ensures) ∙ not-false _ (c .before .before .before .before .before .before .before .before .before .if1 .left))
+with-done-requires : tie.Need-with-done-requires
+with-done-requires c κs = named (c .before .before .before .before .before .before .before .before .before .before .before .before .before .before .before .before .before .before .before .before .before .args .batch) (c .before .before .before .before .before .before .before .before .before .before .before .before .before .before .before .before .before .before .before .before .before .args .k) (sym (c .before .before .before .before .before .before .before .before .before .before .is-named .ensures) ∙ not-false _ (c .before .before .before .before .before .before .before .before .before .if1 .left))
 
 same-length : tie.Need-same-length
 same-length c = search needs
@@ -42,8 +39,10 @@ same-length-2 c = search needs
 
 returns-2 : tie.Need-returns-2
 returns-2 c =
-    let s = c .before .before .before .before .before .before .before .before .before .before .before .before .before .before .before .before .before .before .before .before .before in
-    turned (handed (s .args .f) (s .args .present) (lent (now (s .args .f0)) (now (s .args .f1)) (now (s .args .f2)) (now (s .args .f3)) (now (s .args .f4)) (now (s .args .f5)) (now (s .args .f6))) (now (s .args .recs)) (length (now (s .args .proj))) (length (now (s .args .saved)))) (s .args .batch) (s .args .k) (now (s .args .proj)) (now (s .args .saved)) (sym (c .before .before .before .before .before .before .before .before .before .before .is-named .ensures) ∙ not-false _ (c .before .before .before .before .before .before .before .before .before .if1 .left)) (c .before .before .before .before .step-row .ensures .0) (c .before .before .before .before .step-row .ensures .1 .0) (c .before .before .before .before .step-row .ensures .1 .1)
+    let s = c .before .before .before .before .before .before .before .before .before .before .before .before .before .before .before .before .before .before .before .before .before .before .args in
+    let r = c .before .before .before .before .before .step-row .ensures in
+    let z = turned (handed (s .f) (s .present) (lent (now (s .f0)) (now (s .f1)) (now (s .f2)) (now (s .f3)) (now (s .f4)) (now (s .f5)) (now (s .f6))) (now (s .recs)) (length (now (s .proj))) (length (now (s .saved)))) (s .batch) (s .k) (now (s .proj)) (now (s .saved)) (sym (c .before .before .before .before .before .before .before .before .before .before .before .is-named .ensures) ∙ not-false _ (c .before .before .before .before .before .before .before .before .before .before .if1 .left)) (r .0) (r .1 .0) (r .1 .1) in
+    (turned-to refl (c .with-done .ensures) ∙ z .0, z .1)
 
 pub step-of-spec : {M : Type 1} → statement M
 step-of-spec =
@@ -51,11 +50,10 @@ step-of-spec =
     (tie.spec
     is-named-requires
     returns
-    mul-job
-    array-copy-out-job
+    mul-j
+    array-copy-out-j
     step-row-requires
-    mul-jobs
-    array-set-from-jobs
+    with-done-requires
     same-length
     same-length-2
     returns-2)

@@ -18,19 +18,19 @@ answer-of-requires c κs = search needs
 
 returns : tie.Need-returns
 returns c =
-    let s = c .before .before .before .before .before .before .before .before .before .before .before .before .before in
-    stays (handed (s .args .f) (s .args .present) (lent (now (s .args .f0)) (now (s .args .f1)) (now (s .args .f2)) (now (s .args .f3)) (now (s .args .f4)) (now (s .args .f5)) (now (s .args .f6))) (now (s .args .recs)) (length (now (s .args .proj))) (length (now (s .args .saved)))) (s .args .job) (now (s .args .proj)) (now (s .args .saved)) (c .before .before .step-number .ensures) (c .before .if1 .taken) (c .answer-of .ensures)
+    let s = c .before .before .before .before .before .before .before .before .before .before .before .before .before .args in
+    stays (handed (s .f) (s .present) (lent (now (s .f0)) (now (s .f1)) (now (s .f2)) (now (s .f3)) (now (s .f4)) (now (s .f5)) (now (s .f6))) (now (s .recs)) (length (now (s .proj))) (length (now (s .saved)))) (s .job) (now (s .proj)) (now (s .saved)) (c .before .before .step-number .ensures) (c .before .if1 .taken) (c .answer-of .ensures)
 
 do-work-requires : tie.Need-do-work-requires
 do-work-requires c κs =
-    let s = c .before .before .before .before .before .before .before .before .before .before .before .before .before .before in
-    let d = due (handed (s .args .f) (s .args .present) (lent (now (s .args .f0)) (now (s .args .f1)) (now (s .args .f2)) (now (s .args .f3)) (now (s .args .f4)) (now (s .args .f5)) (now (s .args .f6))) (now (s .args .recs)) (length (now (s .args .proj))) (length (now (s .args .saved)))) (s .args .job) (c .before .before .before .step-number .ensures) (c .before .before .if1 .left) in
+    let s = c .before .before .before .before .before .before .before .before .before .before .before .before .before .before .args in
+    let d = due (handed (s .f) (s .present) (lent (now (s .f0)) (now (s .f1)) (now (s .f2)) (now (s .f3)) (now (s .f4)) (now (s .f5)) (now (s .f6))) (now (s .recs)) (length (now (s .proj))) (length (now (s .saved)))) (s .job) (c .before .before .before .step-number .ensures) (c .before .before .if1 .left) in
     ((d .able, d .room), (d .under, d .reads))
 
-add-t21 : tie.Need-add-t21
-add-t21 c =
-    let s = c .before .before .before .before .before .before .before .before .before .before .before .before .before .before .before .before .before .before .before .before in
-    let d = due (handed (s .args .f) (s .args .present) (lent (now (s .args .f0)) (now (s .args .f1)) (now (s .args .f2)) (now (s .args .f3)) (now (s .args .f4)) (now (s .args .f5)) (now (s .args .f6))) (now (s .args .recs)) (length (now (s .args .proj))) (length (now (s .args .saved)))) (s .args .job) (c .before .before .before .before .before .before .before .before .before .step-number .ensures) (c .before .before .before .before .before .before .before .before .if1 .left) in
+add-t26 : tie.Need-add-t26
+add-t26 c =
+    let s = c .before .before .before .before .before .before .before .before .before .before .before .before .before .before .before .before .before .before .before .args in
+    let d = due (handed (s .f) (s .present) (lent (now (s .f0)) (now (s .f1)) (now (s .f2)) (now (s .f3)) (now (s .f4)) (now (s .f5)) (now (s .f6))) (now (s .recs)) (length (now (s .proj))) (length (now (s .saved)))) (s .job) (c .before .before .before .before .before .before .before .before .step-number .ensures) (c .before .before .before .before .before .before .before .if1 .left) in
     omega (arith, d .small)
 
 same-length : tie.Need-same-length
@@ -41,8 +41,8 @@ same-length-2 c = search needs
 
 returns-2 : tie.Need-returns-2
 returns-2 c =
-    let s = c .before .before .before .before .before .before .before .before .before .before .before .before .before .before .before .before .before .before .before .before in
-    goes (handed (s .args .f) (s .args .present) (lent (now (s .args .f0)) (now (s .args .f1)) (now (s .args .f2)) (now (s .args .f3)) (now (s .args .f4)) (now (s .args .f5)) (now (s .args .f6))) (now (s .args .recs)) (length (now (s .args .proj))) (length (now (s .args .saved)))) (s .args .job) (now (s .args .proj)) (now (s .args .saved)) (c .before .before .before .before .before .before .before .before .before .step-number .ensures) (c .before .before .before .before .before .before .before .before .if1 .left) (c .before .before .before .before .before .do-work .ensures .0) (c .before .before .before .before .before .do-work .ensures .1)
+    let s = c .before .before .before .before .before .before .before .before .before .before .before .before .before .before .before .before .before .before .before .args in
+    goes (handed (s .f) (s .present) (lent (now (s .f0)) (now (s .f1)) (now (s .f2)) (now (s .f3)) (now (s .f4)) (now (s .f5)) (now (s .f6))) (now (s .recs)) (length (now (s .proj))) (length (now (s .saved)))) (s .job) (now (s .proj)) (now (s .saved)) (c .before .before .before .before .before .before .before .before .step-number .ensures) (c .before .before .before .before .before .before .before .if1 .left) (c .before .before .before .before .do-work .ensures .0) (c .before .before .before .before .do-work .ensures .1)
 
 pub step-row-spec : {M : Type 1} → statement M
 step-row-spec =
@@ -52,7 +52,7 @@ step-row-spec =
     answer-of-requires
     returns
     do-work-requires
-    add-t21
+    add-t26
     same-length
     same-length-2
     returns-2)

@@ -13,10 +13,10 @@ use Rattle.order.proofs.play.play.Statement.{statement}
 use Rattle.order.proofs.play.play.Tie as tie
 
 abbrev Inv-loop : tie.InvT-loop
-Inv-loop steps f present f0 f1 f2 f3 f4 f5 f6 recs proj₀ saved₀ on₀ i₀ proj saved on i = (i ≤ length steps) × (length steps < 18446744073709551616) × (length proj ≡ length proj₀) × (length saved ≡ length saved₀) × (plays (given f present (lent f0 f1 f2 f3 f4 f5 f6) recs) (drop i steps) (desk on proj saved) ≡ plays (given f present (lent f0 f1 f2 f3 f4 f5 f6) recs) steps (desk on₀ proj₀ saved₀))
+Inv-loop steps f f0 f1 f2 f3 f4 f5 f6 recs proj₀ saved₀ p on₀ i₀ proj saved on i = (i ≤ length steps) × (length steps < 18446744073709551616) × (length proj ≡ length proj₀) × (length saved ≡ length saved₀) × (plays (given f p (lent f0 f1 f2 f3 f4 f5 f6) recs) (drop i steps) (desk on proj saved) ≡ plays (given f p (lent f0 f1 f2 f3 f4 f5 f6) recs) steps (desk on₀ proj₀ saved₀))
 
 abbrev μ-loop : tie.MeasureT-loop
-μ-loop steps f present f0 f1 f2 f3 f4 f5 f6 recs proj₀ saved₀ on₀ i₀ proj saved on i = length steps - i
+μ-loop steps f f0 f1 f2 f3 f4 f5 f6 recs proj₀ saved₀ p on₀ i₀ proj saved on i = length steps - i
 
 loop-holds : tie.Need-loop-holds Inv-loop μ-loop
 loop-holds c = (search needs, search needs, refl, refl, refl)

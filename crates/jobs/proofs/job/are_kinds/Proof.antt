@@ -1,4 +1,4 @@
--- `jobs::admit::are_kinds` meets its contract.
+-- `jobs::job::are_kinds` meets its contract.
 -- Assumes nothing.
 use mathlib.Core.Bool.{true}
 use mathlib.Core.Path.{_≡_, sym, _∙_}
@@ -9,8 +9,8 @@ use borrow.Author.Tests.{not-true, not-false}
 use Rattle.ground.specs.Below.{allBelow}
 use Rattle.ground.proofs.Belows as belows
 use Rattle.jobs.specs.Job.{jobAt, wellKind}
-use Rattle.jobs.proofs.admit.are_kinds.Statement.{statement}
-use Rattle.jobs.proofs.admit.are_kinds.Tie as tie
+use Rattle.jobs.proofs.job.are_kinds.Statement.{statement}
+use Rattle.jobs.proofs.job.are_kinds.Tie as tie
 
 abbrev Inv-loop : tie.InvT-loop
 Inv-loop batch jobs i₀ i = (i ≤ batch .n) × (allBelow i (λ k. wellKind (jobAt batch k)) ≡ true)
