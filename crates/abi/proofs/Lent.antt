@@ -1,32 +1,20 @@
 -- What an exported function's answer says of the lent parts.
 -- Assumes nothing.
-use mathlib.Core.Path.{_≡_, refl, sym, ap, _∙_}
-use mathlib.Core.Bool.{Bool, true, false, _||_}
+use mathlib.Core.Path.{_≡_, refl, _∙_}
+use mathlib.Core.Bool.{Bool, true, false}
 use mathlib.Core.List.{List, []}
 use Prim.Native.Nat.{ℕ, _≤_}
-use native.Mathlib.Omega.{arith}
 use lib.Dec.{ltb}
 use borrow.Author.Tests.{ltb-false}
 use Rattle.ground.specs.Pick.{pick}
 use Rattle.ground.specs.Answer.{accepted}
 use Rattle.ground.specs.Put.{put}
 use Rattle.ground.specs.Script.{Patch, run}
-use Rattle.ground.proofs.Answers.{run-accepted, beside-accepted}
-use Rattle.frame.specs.declared.description.Description.{Description}
-use Rattle.frame.specs.declared.setup.Setup.{Setup}
-use Rattle.frame.specs.Description.{setupAnswer}
-use Rattle.frame.specs.Record.{frameOf, noFrame, setupOf}
+use Rattle.ground.proofs.Picks.{neither}
+use Rattle.ground.proofs.Answers.{run-accepted}
 use Rattle.abi.specs.Framed.{whole, initLacks}
 use Rattle.abi.specs.Tiled.{splatLacks}
 use Rattle.abi.specs.Moved.{loadLacks}
-
--- neither of two tests
-pub neither : (s t : Bool) → (s || t) ≡ false → (s ≡ false) × (t ≡ false)
-neither true t e = absurd (omega (arith, one e))
-  where
-    one : true ≡ false → _≡_ {A = ℕ} 0 1
-    one h = cc
-neither false t e = (refl, e)
 
 -- an accepted call's bytes, as its script has them
 pub written : (n : ℕ) (bs l : List ℕ) {m : List ℕ} → n ≡ 0 → m ≡ put l 0 bs → m ≡ run (accepted n (whole bs)) l
@@ -46,15 +34,6 @@ enough h b p f e =
     let r = neither (ltb b 49) _ (q .1) in
     let s = neither (ltb p 7) _ (r .1) in
     record { hints = ltb-false h 7 (q .0); held = ltb-false b 49 (r .0); present = ltb-false p 7 (s .0); frame = ltb-false f 109 (s .1) }
-
--- what setup returned
-pub setup-answer : {r : Setup} (d : Description) (present : List ℕ) → r ≡ setupOf d present → r .answer ≡ setupAnswer d present
-unfolding setupOf
-setup-answer d present e = ap (λ (s : Setup). s .answer) e
-
-pub setup-frame : {r : Setup} (d : Description) (present : List ℕ) → r ≡ setupOf d present → setupAnswer d present ≡ 0 → r .frame ≡ frameOf d present
-unfolding setupOf
-setup-frame d present e z = ap (λ (s : Setup). s .frame) e ∙ sym (beside-accepted (setupAnswer d present) (frameOf d present) noFrame z)
 
 -- a call where a part is too short, and where none is: n is what it answers then
 pub refused-short : (t : Bool) (n : ℕ) (ps : List Patch) (l : List ℕ) → t ≡ true → (4 ≡ pick t 4 n) × (l ≡ run (accepted (pick t 4 n) ps) l)

@@ -1,7 +1,7 @@
 -- A choice whose test is known, and two tests that mean the same.
 -- Assumes nothing.
 use mathlib.Core.Path.{_≡_, refl, sym, ap}
-use mathlib.Core.Bool.{Bool, true, false, _&&_, _||_, and-eq-true-iff}
+use mathlib.Core.Bool.{Bool, true, false, _&&_, _||_, and-eq-true-iff, true≢false}
 use Rattle.ground.specs.Pick.{pick}
 
 pub pick-true : {A : Type 0} {t : Bool} {a : A} (b : A) → t ≡ true → pick t a b ≡ a
@@ -31,6 +31,11 @@ or-on {s} t e = ap (λ (u : Bool). u || t) e
 
 pub or-off : {s t : Bool} → s ≡ false → (s || t) ≡ t
 or-off {s} {t} e = ap (λ (u : Bool). u || t) e
+
+-- neither of two tests
+pub neither : (s t : Bool) → (s || t) ≡ false → (s ≡ false) × (t ≡ false)
+neither true t e = absurd (true≢false e)
+neither false t e = (refl, e)
 
 -- two tests are equal where each gives the other
 pub agree : (s t : Bool) → (s ≡ true → t ≡ true) → (t ≡ true → s ≡ true) → s ≡ t

@@ -1,7 +1,7 @@
 -- A list of steps from step i on: the turns of the loop.
 -- Assumes nothing.
 use mathlib.Core.Path.{_≡_, refl, sym, ap, _∙_}
-use mathlib.Core.List.{List, [], _∷_}
+use mathlib.Core.List.{List, [], _∷_, _++_}
 use Prim.Native.Nat.{ℕ, zero, suc, _+_, _≤_, _<_}
 use native.Mathlib.Numerals.{add-one}
 use native.Mathlib.Omega.{arith}
@@ -24,6 +24,11 @@ plays-end g [] d zero h = refl
 plays-end g [] d (suc i) h = refl
 plays-end g (k ∷ ks) d zero h = absurd (omega arith)
 plays-end g (k ∷ ks) d (suc i) h = plays-end g ks d i (omega arith)
+
+-- one list behind another
+pub plays-append : (g : Given) (ks ls : List ℕ) (d : Desk) → plays g (ks ++ ls) d ≡ plays g ls (plays g ks d)
+plays-append g [] ls d = refl
+plays-append g (k ∷ ks) ls d = plays-append g ks ls (turn g k d)
 
 -- a step as its contract tells it
 pub turned : (g : Given) (d : Desk) {k j : ℕ} {r : Turned} {p s : List ℕ} → k ≡ j

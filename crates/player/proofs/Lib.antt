@@ -1,2 +1,4 @@
 -- Laws of a capture that is opened and played.
 pub mod Opens
+pub mod Orders
+pub mod Outcomes

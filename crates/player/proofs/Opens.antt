@@ -1,7 +1,7 @@
 -- What an opened capture is known to have.
 -- Assumes nothing.
-use mathlib.Core.Path.{_≡_, sym, ap, _∙_}
-use mathlib.Core.Bool.{Bool, true, false, not, _||_}
+use mathlib.Core.Path.{_≡_}
+use mathlib.Core.Bool.{true, false, not}
 use mathlib.Core.List.{List}
 use Prim.Native.Nat.{ℕ, _≤_}
 use native.Mathlib.Omega.{arith}
@@ -9,32 +9,14 @@ use lib.Dec.{ltb}
 use lib.ListN.{length}
 use borrow.Author.Tests.{not-false}
 use Rattle.ground.proofs.Answers.{refused-not}
+use Rattle.ground.proofs.Picks.{neither}
+use Rattle.frame.specs.declared.description.Description.{Description}
 use Rattle.frame.specs.Description.{setupAnswer}
 use Rattle.jobs.specs.declared.job.Batch.{Batch}
+use Rattle.jobs.specs.Job.{wellBatch}
 use Rattle.capture.specs.File.{wellFile, bodyOf}
 use Rattle.capture.proofs.Files as files
-use Rattle.player.specs.Opened.{wellBatch, describedIn, batchIn, presentIn, beyond, unread, openAnswer}
-
--- TODO move: ground Picks, frame Records
-use mathlib.Core.Path.{refl}
-use Rattle.ground.proofs.Answers.{beside-accepted}
-use Rattle.frame.specs.declared.description.Description.{Description}
-use Rattle.frame.specs.declared.setup.Setup.{Setup}
-use Rattle.frame.specs.Record.{frameOf, noFrame, setupOf}
-neither : (s t : Bool) → (s || t) ≡ false → (s ≡ false) × (t ≡ false)
-neither true t e = absurd (omega (arith, one e))
-  where
-    one : true ≡ false → _≡_ {A = ℕ} 0 1
-    one h = cc
-neither false t e = (refl, e)
-
-pub setup-answer : {r : Setup} (d : Description) (present : List ℕ) → r ≡ setupOf d present → r .answer ≡ setupAnswer d present
-unfolding setupOf
-setup-answer d present e = ap (λ (s : Setup). s .answer) e
-
-pub setup-frame : {r : Setup} (d : Description) (present : List ℕ) → r ≡ setupOf d present → setupAnswer d present ≡ 0 → r .frame ≡ frameOf d present
-unfolding setupOf
-setup-frame d present e z = ap (λ (s : Setup). s .frame) e ∙ sym (beside-accepted (setupAnswer d present) (frameOf d present) noFrame z)
+use Rattle.player.specs.Opened.{describedIn, batchIn, presentIn, beyond, unread, openAnswer}
 
 -- a file that is read is well formed
 read : (file : List ℕ) → unread file ≡ false → wellFile file ≡ true

@@ -14,7 +14,7 @@ use Rattle.loading.specs.Load.{lent}
 use Rattle.jobs.specs.declared.job.Job.{Job}
 use Rattle.jobs.specs.declared.job.Batch.{Batch}
 use Rattle.jobs.specs.Bytes.{jobHeld}
-use Rattle.jobs.specs.Job.{noJob}
+use Rattle.jobs.specs.Job.{noJob, wellBatch}
 use Rattle.capture.specs.declared.file.Scan.{Scan}
 use Rattle.capture.specs.declared.file.Scan.the-variants.{Malformed, Absent, Present}
 use Rattle.capture.specs.File.{wellFile, scanOf, bodyOf}
@@ -59,9 +59,6 @@ givenIn file = given (frameIn file) (presentIn file) (fieldsIn file) (bodyOf fil
 -- frames to 256 x 256, and at most 4 tile rows
 unfoldable pub beyond : Description → Bool
 beyond d = ltb 256 (d .width) || (ltb 256 (d .height) || ltb 4 (d .«tile_rows»))
-
-unfoldable pub wellBatch : Batch → Bool
-wellBatch b = ltb 0 (b .n)
 
 -- at most 65,536 bytes
 unfoldable pub unread : List ℕ → Bool

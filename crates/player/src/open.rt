@@ -15,7 +15,7 @@ ghost use mathlib.Core.Path.{_≡_};
 ghost use mathlib.Core.Bool.{false};
 ghost use Prim.Native.Nat.{_≤_};
 ghost use Rattle.capture.specs.File.{wellFile};
-ghost use Rattle.player.specs.Opened.{describedIn, placeIn, batchOf, batchIn, flagOf, presentIn, frameIn, beyond, unread, openAnswer, wellBatch};
+ghost use Rattle.player.specs.Opened.{describedIn, placeIn, batchOf, batchIn, flagOf, presentIn, frameIn, beyond, unread, openAnswer};
 
 // Of a file, in bytes.
 const MOST_BYTES: usize = 65536;
@@ -117,12 +117,6 @@ fn is_beyond(d: Description) -> bool
     MOST_TILE_ROWS < d.tile_rows
 }
 
-fn well_stub(batch: Batch) -> bool
-    ensures { λ r. ⌜ r ≡ wellBatch batch ⌝ }
-{
-    0 < batch.n
-}
-
 // 0, or the refusal of the file, of its jobs' kinds or of its frame.
 pub fn open(file: &[u8]) -> u8
     ensures { λ r. ⌜ r ≡ openAnswer (now (file .entry)) ⌝ }
@@ -131,7 +125,7 @@ pub fn open(file: &[u8]) -> u8
         return 13;
     }
     let batch = batch_in(file);
-    if !well_stub(batch) {
+    if !batch.well_formed() {
         return 12;
     }
     let d = described_in(file);

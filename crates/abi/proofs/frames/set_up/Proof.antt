@@ -4,7 +4,8 @@ use mathlib.Core.Path.{sym, ap, _∙_}
 use Rattle.ground.specs.Put.{put}
 use Rattle.ground.proofs.Answers.{run-refused}
 use Rattle.layout.specs.FrameBytes.{frameBytes}
-use Rattle.abi.proofs.Lent.{written, setup-answer, setup-frame}
+use Rattle.frame.proofs.Records.{setup-answer, setup-frame}
+use Rattle.abi.proofs.Lent.{written}
 use borrow.Author.Needs.{needs}
 use Rattle.abi.proofs.frames.set_up.Statement.{statement}
 use Rattle.abi.proofs.frames.set_up.Tie as tie

@@ -1,3 +1,5 @@
+-- `player::blank::lay_everywhere` meets its contract.
+-- Assumes nothing.
 use mathlib.Core.Path.{_≡_, refl, _∙_}
 use Prim.Native.Nat.{_-_, _/_, _≤_}
 use native.Mathlib.Omega.{arith}
@@ -9,9 +11,6 @@ use Rattle.ground.proofs.Spans.{start, more, stop}
 use Rattle.player.specs.Played.{laidAt, everywhere}
 use Rattle.player.proofs.blank.lay_everywhere.Statement.{statement}
 use Rattle.player.proofs.blank.lay_everywhere.Tie as tie
-use Rattle.player.proofs.blank.lay_everywhere.Reads as reads
-use Rattle.player.proofs.blank.lay_everywhere.Lts as lts
-use Rattle.cells.proofs.cell.Cell.write.Reads as write-reads
 
 abbrev Inv-loop : tie.InvT-loop
 Inv-loop s₀ c n i₀ s i = (i ≤ n) × (length s ≡ length s₀) × (s ≡ run (span (laidAt c) 0 i) s₀)
@@ -19,23 +18,18 @@ Inv-loop s₀ c n i₀ s i = (i ≤ n) × (length s ≡ length s₀) × (s ≡ r
 abbrev μ-loop : tie.MeasureT-loop
 μ-loop s₀ c n i₀ s i = n - i
 
--- src/blank.rt:15:5
 loop-holds : tie.Need-loop-holds Inv-loop μ-loop
 loop-holds c = (omega arith, refl, start _ _ _)
 
--- src/blank.rt:16:9
 write-requires : tie.Need-write-requires Inv-loop μ-loop
 write-requires c κs = let l = c .before .before .loop in omega arith
 
--- src/blank.rt:17:9
 add-i : tie.Need-add-i Inv-loop μ-loop
 add-i c = search needs
 
--- src/blank.rt:15:5
 loop-less : tie.Need-loop-less Inv-loop μ-loop
 loop-less c = search needs
 
--- src/blank.rt:15:5
 loop-again : tie.Need-loop-again Inv-loop μ-loop
 unfolding run
 loop-again c =
@@ -44,11 +38,9 @@ loop-again c =
     let a = c .before .before .before .before .before .before .before .args in
     (omega arith, w .kept .1 .0 ∙ l .inv .1, more (laidAt (a .c)) 0 (l .i) (omega arith) (a .s .now) (l .inv .2) (w .ensures))
 
--- src/blank.rt:10:1
 same-length : tie.Need-same-length Inv-loop μ-loop
 same-length c = search needs
 
--- src/blank.rt:10:1
 returns : tie.Need-returns Inv-loop μ-loop
 unfolding everywhere
 returns c =

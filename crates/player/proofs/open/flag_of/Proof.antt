@@ -1,33 +1,27 @@
+-- `player::open::flag_of` meets its contract.
+-- Assumes nothing.
 use Rattle.player.specs.Opened.{flagOf}
 use borrow.Author.Needs.{needs}
 use Rattle.player.proofs.open.flag_of.Statement.{statement}
 use Rattle.player.proofs.open.flag_of.Tie as tie
-use Rattle.player.proofs.open.flag_of.Reads as reads
-use Rattle.player.proofs.open.flag_of.Lts as lts
 
--- src/open.rt:38:28
 enum-told : tie.Need-enum-told
 enum-told c = search needs
 
--- src/open.rt:39:25
 enum-told-2 : tie.Need-enum-told-2
 enum-told-2 c = search needs
 
--- src/open.rt:40:23
 enum-known-s : tie.Need-enum-known-s
 enum-known-s c = search needs
 
--- src/open.rt:34:1
 returns : tie.Need-returns
 unfolding flagOf
 returns c = rw (c .enum-told .given .1)
 
--- src/open.rt:34:1
 returns-2 : tie.Need-returns-2
 unfolding flagOf
 returns-2 c = rw (c .enum-told2 .given .1)
 
--- src/open.rt:34:1
 returns-3 : tie.Need-returns-3
 unfolding flagOf
 returns-3 c = rw (c .before .s .given .1)

@@ -1,21 +1,18 @@
+-- `player::open::is_beyond` meets its contract.
+-- Assumes nothing.
 use Rattle.ground.proofs.Tests.{tests}
 use Rattle.player.specs.Opened.{beyond}
 use Rattle.player.proofs.open.is_beyond.Statement.{statement}
 use Rattle.player.proofs.open.is_beyond.Tie as tie
-use Rattle.player.proofs.open.is_beyond.Reads as reads
-use Rattle.player.proofs.open.is_beyond.Lts as lts
 
--- src/open.rt:112:9
 returns : tie.Need-returns
 unfolding beyond
 returns c = search tests
 
--- src/open.rt:115:9
 returns-2 : tie.Need-returns-2
 unfolding beyond
 returns-2 c = search tests
 
--- src/open.rt:108:1
 returns-3 : tie.Need-returns-3
 unfolding beyond
 returns-3 c = search tests

@@ -1,23 +1,19 @@
+-- `player::open::is_unread` meets its contract.
+-- Assumes nothing.
 use borrow.Author.Tests.{le-ltb}
 use Rattle.ground.proofs.Tests.{tests}
 use Rattle.player.specs.Opened.{unread}
 use borrow.Author.Needs.{needs}
 use Rattle.player.proofs.open.is_unread.Statement.{statement}
 use Rattle.player.proofs.open.is_unread.Tie as tie
-use Rattle.player.proofs.open.is_unread.Reads as reads
-use Rattle.player.proofs.open.is_unread.Lts as lts
-use Rattle.capture.proofs.entries.is_well.Reads as is-well-reads
 
--- src/open.rt:103:9
 returns : tie.Need-returns
 unfolding unread
 returns c = search tests
 
--- src/open.rt:105:6
 is-well-requires : tie.Need-is-well-requires
 is-well-requires c κs = search needs
 
--- src/open.rt:99:1
 returns-2 : tie.Need-returns-2
 unfolding unread
 returns-2 c = rw (le-ltb _ _ (c .before .if1 .left), ← c .is-well .ensures)

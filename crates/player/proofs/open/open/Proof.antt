@@ -1,65 +1,48 @@
+-- `player::open::open` meets its contract.
+-- Assumes nothing.
 use mathlib.Core.Path.{sym, _∙_}
 use borrow.Author.Tests.{not-true, not-false}
-use Rattle.player.proofs.Opens.{answer-13, answer-12, answer-1, answer-setup, setup-answer}
+use Rattle.player.proofs.Opens.{answer-13, answer-12, answer-1, answer-setup}
+use Rattle.frame.proofs.Records.{setup-answer}
 use borrow.Author.Needs.{needs}
 use Rattle.player.proofs.open.open.Statement.{statement}
 use Rattle.player.proofs.open.open.Tie as tie
-use Rattle.player.proofs.open.open.Reads as reads
-use Rattle.player.proofs.open.open.Lts as lts
-use Rattle.frame.proofs.setup.init_frame.Reads as init-frame-reads
-use Rattle.player.proofs.open.batch_in.Reads as batch-in-reads
-use Rattle.player.proofs.open.described_in.Reads as described-in-reads
-use Rattle.player.proofs.open.is_beyond.Reads as is-beyond-reads
-use Rattle.player.proofs.open.is_unread.Reads as is-unread-reads
-use Rattle.player.proofs.open.present_in.Reads as present-in-reads
-use Rattle.player.proofs.open.well_stub.Reads as well-stub-reads
 
--- src/open.rt:130:8
 is-unread-requires : tie.Need-is-unread-requires
 is-unread-requires c κs = search needs
 
--- src/open.rt:131:9
 returns : tie.Need-returns
 returns c = answer-13 _ (sym (c .before .is-unread .ensures) ∙ c .if1 .taken)
 
--- src/open.rt:133:9
 batch-in-requires : tie.Need-batch-in-requires
 batch-in-requires c κs = search needs
 
--- src/open.rt:134:9
-well-stub-requires : tie.Need-well-stub-requires
-well-stub-requires c κs = search needs
+well-formed-requires : tie.Need-well-formed-requires
+well-formed-requires c κs = search needs
 
--- src/open.rt:135:9
 returns-2 : tie.Need-returns-2
-returns-2 c = answer-12 _ (sym (c .before .before .before .before .is-unread .ensures) ∙ c .before .before .before .if1 .left) (c .before .before .batch-in .ensures) (sym (c .before .well-stub .ensures) ∙ not-true _ (c .if2 .taken))
+returns-2 c = answer-12 _ (sym (c .before .before .before .before .is-unread .ensures) ∙ c .before .before .before .if1 .left) (c .before .before .batch-in .ensures) (sym (c .before .well-formed .ensures) ∙ not-true _ (c .if2 .taken))
 
--- src/open.rt:137:9
 described-in-requires : tie.Need-described-in-requires
 described-in-requires c κs = sym (c .before .before .before .before .is-unread .ensures) ∙ c .before .before .before .if1 .left
 
--- src/open.rt:138:8
 is-beyond-requires : tie.Need-is-beyond-requires
 is-beyond-requires c κs = search needs
 
--- src/open.rt:139:9
 returns-3 : tie.Need-returns-3
 returns-3 c =
-    answer-1 _ (sym (c .before .before .before .before .before .before .before .is-unread .ensures) ∙ c .before .before .before .before .before .before .if1 .left) (c .before .before .before .before .before .batch-in .ensures) (sym (c .before .before .before .before .well-stub .ensures) ∙ not-false _ (c .before .before .before .if2 .left)) (c .before .before .described-in .ensures) (sym (c .before .is-beyond .ensures) ∙ c .if3 .taken)
+    answer-1 _ (sym (c .before .before .before .before .before .before .before .is-unread .ensures) ∙ c .before .before .before .before .before .before .if1 .left) (c .before .before .before .before .before .batch-in .ensures) (sym (c .before .before .before .before .well-formed .ensures) ∙ not-false _ (c .before .before .before .if2 .left)) (c .before .before .described-in .ensures) (sym (c .before .is-beyond .ensures) ∙ c .if3 .taken)
 
--- src/open.rt:141:19
 present-in-requires : tie.Need-present-in-requires
 present-in-requires c κs = search needs
 
--- src/open.rt:141:5
 init-frame-requires : tie.Need-init-frame-requires
 init-frame-requires c κs = search needs
 
--- src/open.rt:127:1
 returns-4 : tie.Need-returns-4
 returns-4 c =
     setup-answer _ _ (c .init-frame .ensures)
-    ∙ answer-setup _ (sym (c .before .before .before .before .before .before .before .before .before .is-unread .ensures) ∙ c .before .before .before .before .before .before .before .before .if1 .left) (c .before .before .before .before .before .before .before .batch-in .ensures) (sym (c .before .before .before .before .before .before .well-stub .ensures) ∙ not-false _ (c .before .before .before .before .before .if2 .left)) (c .before .before .before .before .described-in .ensures) (c .before .present-in .ensures) (sym (c .before .before .before .is-beyond .ensures) ∙ c .before .before .if3 .left)
+    ∙ answer-setup _ (sym (c .before .before .before .before .before .before .before .before .before .is-unread .ensures) ∙ c .before .before .before .before .before .before .before .before .if1 .left) (c .before .before .before .before .before .before .before .batch-in .ensures) (sym (c .before .before .before .before .before .before .well-formed .ensures) ∙ not-false _ (c .before .before .before .before .before .if2 .left)) (c .before .before .before .before .described-in .ensures) (c .before .present-in .ensures) (sym (c .before .before .before .is-beyond .ensures) ∙ c .before .before .if3 .left)
 
 pub open-spec : {M : Type 1} → statement M
 open-spec =
@@ -68,7 +51,7 @@ open-spec =
     is-unread-requires
     returns
     batch-in-requires
-    well-stub-requires
+    well-formed-requires
     returns-2
     described-in-requires
     is-beyond-requires

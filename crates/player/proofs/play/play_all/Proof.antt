@@ -1,17 +1,16 @@
-use mathlib.Core.Path.{_≡_, refl, sym, ap, _∙_}
-use Prim.Native.Nat.{_-_, _≤_}
+-- `player::play::play_all` meets its contract.
+-- Assumes nothing.
+use mathlib.Core.Path.{_≡_, refl, ap, _∙_}
+use Prim.Native.Nat.{ℕ, _-_, _≤_}
 use native.Mathlib.Omega.{arith}
 use lib.ListN.{length}
 use borrow.Author.Needs.{needs}
 use Rattle.loading.specs.Load.{lent}
 use Rattle.order.specs.Desk.{given, desk, plays}
 use Rattle.player.specs.Played.{inOrder}
+use Rattle.player.proofs.Orders.{one-more}
 use Rattle.player.proofs.play.play_all.Statement.{statement}
 use Rattle.player.proofs.play.play_all.Tie as tie
-use Rattle.player.proofs.play.play_all.Reads as reads
-use Rattle.player.proofs.play.play_all.Lts as lts
-use Rattle.order.proofs.play.play.Reads as play-reads
-use Rattle.player.proofs.play.named.Reads as named-reads
 
 abbrev Inv-loop : tie.InvT-loop
 Inv-loop batch f present f0 f1 f2 f3 f4 f5 f6 recs proj₀ saved₀ on₀ k₀ proj saved on k = (k ≤ batch .n) × (length proj ≡ length proj₀) × (length saved ≡ length saved₀) × (desk on proj saved ≡ plays (given f present (lent f0 f1 f2 f3 f4 f5 f6) recs) (inOrder k) (desk batch proj₀ saved₀))
@@ -19,45 +18,43 @@ Inv-loop batch f present f0 f1 f2 f3 f4 f5 f6 recs proj₀ saved₀ on₀ k₀ p
 abbrev μ-loop : tie.MeasureT-loop
 μ-loop batch f present f0 f1 f2 f3 f4 f5 f6 recs proj₀ saved₀ on₀ k₀ proj saved on k = batch .n - k
 
--- src/play.rt:61:5
 loop-holds : tie.Need-loop-holds Inv-loop μ-loop
 loop-holds c = (omega arith, refl, refl, refl)
 
--- src/play.rt:62:22
 named-requires : tie.Need-named-requires Inv-loop μ-loop
 named-requires c κs = search needs
 
--- src/play.rt:65:13
 slice-aggregate-play : tie.Need-slice-aggregate-play Inv-loop μ-loop
 slice-aggregate-play c = search needs
 
--- src/play.rt:63:9
 play-requires : tie.Need-play-requires Inv-loop μ-loop
 play-requires c κs = search needs
 
--- src/play.rt:79:9
 add-k : tie.Need-add-k Inv-loop μ-loop
 add-k c = search needs
 
--- src/play.rt:61:5
 loop-less : tie.Need-loop-less Inv-loop μ-loop
 loop-less c = search needs
 
--- src/play.rt:61:5
 loop-again : tie.Need-loop-again Inv-loop μ-loop
-loop-again c = ?
+loop-again c =
+    let l = c .before .before .before .before .before .before .before .before .before .before .before .loop in
+    let p = c .before .before .before .before .play in
+    let a = c .before .before .before .before .before .before .before .before .before .before .before .before .before .before .before .before .before .before .before .before .before .before .args in
+    (omega arith, p .kept .1 .1 .1 .1 .1 .1 .1 .1 .1 .1 .1 .1 .0 ∙ l .inv .1, p .kept .1 .1 .1 .1 .1 .1 .1 .1 .1 .1 .1 .1 .1 .0 ∙ l .inv .2, one-more (given (a .f) (a .present) (lent (a .f0 .now) (a .f1 .now) (a .f2 .now) (a .f3 .now) (a .f4 .now) (a .f5 .now) (a .f6 .now)) (a .recs .now)) (desk (a .batch) (a .proj .now) (a .saved .now)) (l .k) (c .before .before .before .before .before .before .before .before .named .ensures) (l .inv .3) (p .ensures))
 
--- src/play.rt:41:1
 same-length : tie.Need-same-length Inv-loop μ-loop
 same-length c = search needs
 
--- src/play.rt:41:1
 same-length-2 : tie.Need-same-length-2 Inv-loop μ-loop
 same-length-2 c = search needs
 
--- src/play.rt:41:1
 returns : tie.Need-returns Inv-loop μ-loop
-returns c = ?
+returns c =
+    let l = c .before .before .loop in
+    let a = c .before .before .before .before .before .before .before .before .before .before .before .before .before .args in
+    let e : l .k ≡ a .batch .n = omega (arith, l .inv .0) in
+    l .inv .3 ∙ ap (λ (n : ℕ). plays (given (a .f) (a .present) (lent (a .f0 .now) (a .f1 .now) (a .f2 .now) (a .f3 .now) (a .f4 .now) (a .f5 .now) (a .f6 .now)) (a .recs .now)) (inOrder n) (desk (a .batch) (a .proj .now) (a .saved .now))) e
 
 pub play-all-spec : {M : Type 1} → statement M
 play-all-spec =
