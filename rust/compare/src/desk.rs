@@ -4,15 +4,11 @@ use crate::batches;
 use crate::codec;
 use crate::fields;
 use crate::layout;
-use crate::windows;
 use jaskkovir::Frame;
 use jaskkovir::Job;
-use oracle::leaves;
-use oracle::load;
+use oracle::jobs::Prepared;
 use oracle::paper;
 use oracle::paper::FrameRecord;
-use oracle::save;
-use oracle::save::Place;
 use shared::split_mix::SplitMix64;
 
 const CELL_LEN: usize = 5;
@@ -29,6 +25,16 @@ pub struct Written {
     pub saved: Vec<u8>,
 }
 
+impl Written {
+    /// The listed cells of both.
+    fn listed(&mut self) -> [&mut [u8]; 2] {
+        [&mut self.projection, &mut self.saved].map(|part| {
+            let len = part.len() - MORE;
+            &mut part[..len]
+        })
+    }
+}
+
 pub struct Desk {
     pub record: FrameRecord,
     pub frame: [u8; Frame::LEN],
@@ -37,8 +43,7 @@ pub struct Desk {
     /// As the port leaves them, and as they should be.
     pub ours: Written,
     pub wanted: Written,
-    load: load::Prepared,
-    save: save::Prepared,
+    rust: Prepared,
 }
 
 /// A cell of a field, or a record, and what is put there.
@@ -59,13 +64,11 @@ impl Desk {
         let records = layout::blocks(random, &record, MORE);
         let rust_fields = std::array::from_fn(|at: usize| Some(&fields[at][..listed]));
         let whole = &records[..records.len() - MORE];
-        let Place { window, .. } = Place::NOWHERE;
         let wanted = Written { projection, saved };
         let [before, field] = [&wanted.projection[..projected], &wanted.saved[..listed]];
         Self {
             frame: codec::frame_bytes(&record),
-            load: load::Prepared::on_record(&record, &window, rust_fields, before),
-            save: save::Prepared::on_record(&record, &Place::NOWHERE, whole, field),
+            rust: Prepared::on_record(&record, rust_fields, whole, before, field),
             record,
             fields,
             records,
@@ -74,60 +77,35 @@ impl Desk {
         }
     }
 
-    /// Runs a whole job in the Rust. False where the Rust can't be asked: where the rows of a save
-    /// start past the frame it may stop, and by the paper nothing changes.
+    /// Runs a whole job in the Rust. False where the Rust can't be asked.
     pub fn run(&mut self, job: &Job) -> Result<bool, String> {
-        let window = windows::rust_window(&batches::window(job));
-        if job.kind == 1 && window.row_start > self.record.ih8 {
-            return Ok(false);
-        }
-        let outcome = if job.kind == 0 {
-            self.load.set_window(&window);
-            self.load.try_call()
-        } else {
-            self.save.set_place(&Place {
-                window,
-                superblock_row: job.superblock_row.into(),
-                pass: job.pass.into(),
-            });
-            self.save.try_call()
-        };
-        let gave = outcome.gave().map(|()| true);
-        gave.ok_or_else(|| format!("the Rust panicked: {job:?} on {:?}", self.record))
+        let outcome = self.rust.run(&batches::for_paper(job)).gave();
+        outcome.ok_or_else(|| format!("the Rust panicked: {job:?} on {:?}", self.record))
     }
 
     /// Brings what should be to what the Rust came to.
     pub fn take(&mut self) {
-        let Written { projection, saved } = &mut self.wanted;
-        let projected = projection.len() - MORE;
-        self.load.take_projection(&mut projection[..projected]);
-        let listed = saved.len() - MORE;
-        self.save.take_field(&mut saved[..listed]);
+        let [projection, saved] = self.wanted.listed();
+        self.rust.take(projection, saved);
     }
 
     /// Goes on from what the port left.
     pub fn go_on(&mut self) {
         self.wanted.clone_from(&self.ours);
-        let Written { projection, saved } = &self.wanted;
-        let projected = projection.len() - MORE;
-        self.load.put_projection(&projection[..projected]);
-        let listed = saved.len() - MORE;
-        self.save.put_field(&saved[..listed]);
+        let [projection, saved] = self.wanted.listed();
+        self.rust.put(projection, saved);
     }
 
-    /// Replaces a cell or record, and gives the one before. The Rust can't hold a record whose size
-    /// code is none: an accepted save doesn't read it.
+    /// Replaces a cell or record, and gives the one before.
     pub fn put(&mut self, put: Put) -> Put {
         match put {
             Put::Cell(field, at, cell) => {
-                self.load.put_cell(field, at, cell);
+                self.rust.put_cell(field, at, cell);
                 let (cells, _) = self.fields[field].as_chunks_mut();
                 Put::Cell(field, at, std::mem::replace(&mut cells[at], cell))
             }
             Put::Record(at, record) => {
-                if leaves::record(record).is_some() {
-                    self.save.put_record(at, record);
-                }
+                self.rust.put_record(at, record);
                 let (places, _) = self.records.as_chunks_mut();
                 Put::Record(at, std::mem::replace(&mut places[at], record))
             }

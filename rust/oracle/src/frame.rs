@@ -11,6 +11,7 @@ use crate::src::refmvs::rav1d_refmvs_init_frame;
 use crate::src::refmvs::RefMvsFrame;
 use crate::src::refmvs::RefMvsTemporalBlock;
 use crate::Outcome;
+use std::array;
 
 /// What a frame is set up from, but for the references' fields.
 #[derive(Clone, Copy, Debug, PartialEq, Eq)]
@@ -44,6 +45,28 @@ impl Description {
         hints: [0; 7],
         hints_by_ref: [[0; 7]; 7],
     };
+
+    /// The length of a capture file's kind 1.
+    pub const BODY_LEN: usize = 67;
+
+    /// What stands there: width, height (u16); all else in bytes.
+    pub fn from_body(body: &[u8; Self::BODY_LEN]) -> Self {
+        let number = |at: usize| u32::from(body[at]);
+        let side = |at: usize| u32::from(u16::from_le_bytes([body[at], body[at + 1]]));
+        Self {
+            width: side(0),
+            height: side(2),
+            sb128: number(4),
+            hint_bits: number(5),
+            current_hint: number(6),
+            hints: array::from_fn(|i| body[7 + i]),
+            hints_by_ref: array::from_fn(|i| array::from_fn(|m| body[14 + 7 * i + m])),
+            tile_rows: number(63),
+            tile_threads: number(64),
+            frame_threads: number(65),
+            temporal: number(66),
+        }
+    }
 }
 
 /// A frame record after setup, under the Rust's names. Setup was given a fresh record, so whatever

@@ -6,11 +6,13 @@
 
 mod buffers;
 pub mod frame;
+pub mod jobs;
 pub mod leaves;
 pub mod load;
 mod outcome;
 pub mod paper;
 pub mod record;
+pub mod replay;
 pub mod rows;
 pub mod save;
 mod sequence_header;

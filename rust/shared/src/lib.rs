@@ -1,4 +1,6 @@
-//! What the vectors and the comparisons share: a generator with a seed, and traced sequences.
+//! What the vectors and the comparisons share: a generator with a seed, traced sequences, and
+//! capture files.
 
+pub mod captures;
 pub mod sequences;
 pub mod split_mix;

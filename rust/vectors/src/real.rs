@@ -13,8 +13,7 @@ const FILE: &str = "real/frames.bin";
 
 const MAGIC: &[u8; 8] = b"MVFRAME1";
 
-/// The capture file's kind 1.
-const BODY_LEN: usize = 67;
+const BODY_LEN: usize = Description::BODY_LEN;
 
 const EXPECTED_LEN: usize = 38;
 
@@ -71,23 +70,9 @@ impl RealFrame {
     }
 
     pub fn question(&self) -> FrameQuestion {
-        let body = &self.0[..BODY_LEN];
-        let number = |at: usize| u32::from(body[at]);
-        let side = |at: usize| u32::from(u16::from_le_bytes([body[at], body[at + 1]]));
+        let body = self.0.first_chunk().expect("a frame is longer");
         FrameQuestion {
-            description: Description {
-                width: side(0),
-                height: side(2),
-                sb128: number(4),
-                hint_bits: number(5),
-                current_hint: number(6),
-                hints: array::from_fn(|i| body[7 + i]),
-                hints_by_ref: array::from_fn(|i| array::from_fn(|m| body[14 + 7 * i + m])),
-                tile_rows: number(63),
-                tile_threads: number(64),
-                frame_threads: number(65),
-                temporal: number(66),
-            },
+            description: Description::from_body(body),
             present: bits(self.0[BODY_LEN]),
         }
     }

@@ -25,6 +25,17 @@ pub struct Job {
     pub done: u32,
 }
 
+impl Job {
+    /// What a save covers, and whose row table it reads.
+    pub fn place(&self) -> Place {
+        Place {
+            window: self.window,
+            superblock_row: self.superblock_row,
+            pass: self.pass,
+        }
+    }
+}
+
 /// What a batch and each of its steps are handed beside the jobs.
 #[derive(Clone, Copy)]
 pub struct Handed<'a> {
@@ -52,7 +63,7 @@ fn cut_rows(record: &FrameRecord, job: &Job) -> std::ops::Range<u32> {
 
 /// 12 over all jobs, then 1; then the first refused job in the list; 11 last.
 pub fn batch_answer(handed: &Handed, jobs: &[Job]) -> u8 {
-    if !(1..=8).contains(&jobs.len()) || !jobs.iter().all(kind_is_fine) {
+    if !batch_is_fine(jobs) {
         return 12;
     }
     if !frame_is_fine(handed) {
@@ -69,6 +80,11 @@ pub fn batch_answer(handed: &Handed, jobs: &[Job]) -> u8 {
     } else {
         11
     }
+}
+
+/// Refusal 12 over all jobs, but for their steps.
+pub(super) fn batch_is_fine(jobs: &[Job]) -> bool {
+    (1..=8).contains(&jobs.len()) && jobs.iter().all(kind_is_fine)
 }
 
 fn kind_is_fine(job: &Job) -> bool {
@@ -107,15 +123,12 @@ fn own_answer(handed: &Handed, job: &Job) -> u8 {
         } = *handed;
         load_answer(handed.record, &job.window, present, fields, projection_len)
     } else {
-        save_answer(handed.record, &place(job), handed.records, handed.saved_len)
-    }
-}
-
-fn place(job: &Job) -> Place {
-    Place {
-        window: job.window,
-        superblock_row: job.superblock_row,
-        pass: job.pass,
+        save_answer(
+            handed.record,
+            &job.place(),
+            handed.records,
+            handed.saved_len,
+        )
     }
 }
 

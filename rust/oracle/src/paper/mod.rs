@@ -1,6 +1,7 @@
 //! Which refusal the scope paper (document 01) gives, read plainly and without the Rust, which has
 //! none. 0 is acceptance.
 
+pub mod capture;
 mod jobs;
 mod load;
 mod save;

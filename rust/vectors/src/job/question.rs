@@ -6,13 +6,11 @@ use crate::load::question::FieldLen;
 use crate::load::question::MOST_FIELD;
 use crate::load::question::MOST_PROJECTION;
 use crate::question::FrameQuestion;
-use oracle::load;
+use oracle::jobs::Prepared;
 use oracle::paper;
 use oracle::paper::FrameRecord;
 use oracle::paper::Handed;
 use oracle::paper::Job;
-use oracle::save;
-use oracle::save::Place;
 use std::array;
 
 /// The number of the records' buffer; those below are the fields'.
@@ -201,30 +199,14 @@ impl JobQuestion {
         }
         let (fields, records) = (self.fields(), self.records());
         let fields = array::from_fn(|at| (self.present[at] == 1).then_some(fields[at].as_slice()));
-        let present = self.frame.present.map(|flag| flag == 1);
-        let description = &self.frame.description;
         let mut written = self.lent();
+        let Written { projection, saved } = &mut written;
+        let mut run = Prepared::on_record(&self.record()?, fields, &records, projection, saved);
         for job in jobs {
-            let (buffer, after) = if job.kind == 0 {
-                let projection = &mut written.projection;
-                let after = load::load(description, present, &job.window, fields, projection);
-                (projection, after)
-            } else {
-                let saved = &mut written.saved;
-                let after = save::save(description, present, &place(job), &records, saved);
-                (saved, after)
-            };
-            *buffer = after.gave().ok_or("the Rust panicked in a job")?;
+            run.run(job).gave().ok_or("the Rust panicked in a job")?;
         }
+        run.take(projection, saved);
         Ok(written)
-    }
-}
-
-fn place(job: &Job) -> Place {
-    Place {
-        window: job.window,
-        superblock_row: job.superblock_row,
-        pass: job.pass,
     }
 }
 

@@ -1,0 +1,55 @@
+//! Capture files, made from their parts.
+
+/// A kind and its body.
+pub type Part = (u8, Vec<u8>);
+
+/// The bytes of an entry.
+pub const ENTRY_LEN: usize = 9;
+
+/// A file with these parts, in this order.
+pub fn file(parts: &[Part]) -> Vec<u8> {
+    let mut file = vec![parts.len() as u8];
+    let mut offset = 1 + ENTRY_LEN * parts.len();
+    for (kind, body) in parts {
+        file.push(*kind);
+        for number in [offset, body.len()] {
+            file.extend((number as u32).to_le_bytes());
+        }
+        offset += body.len();
+    }
+    file.extend(parts.iter().flat_map(|(_, body)| body));
+    file
+}
+
+/// The output of document 01's worked example.
+pub const WORKED_OUTPUT: &str = "job 0 answer 0 steps 16\np 2 2 0 64 1\n";
+
+/// Its parts: the frame, one load, and field 0.
+pub fn worked() -> [Part; 3] {
+    let mut description = vec![0; 67];
+    // Width and height are 64; 3 bits, hint 2.
+    description[..7].copy_from_slice(&[64, 0, 64, 0, 0, 3, 2]);
+    description[7..14].fill(1);
+    description[63..].fill(1);
+    let load = vec![0, 0, 0, 0, 8, 0, 0, 0, 8, 0, 0, 0, 1];
+    // 8 rows of 16 cells.
+    let mut cells = [[0; 5]; 8 * 16];
+    cells[2 * 16 + 3] = [0, 0, 64, 0, 1];
+    [(1, description), (2, load), (16, cells.concat())]
+}
+
+#[cfg(test)]
+mod tests {
+    use super::*;
+
+    #[test]
+    fn bodies_follow_the_entries() {
+        let file = file(&[(1, vec![7, 8]), (16, vec![]), (2, vec![9])]);
+        let entries = [
+            [1, 28, 0, 0, 0, 2, 0, 0, 0],
+            [16, 30, 0, 0, 0, 0, 0, 0, 0],
+            [2, 30, 0, 0, 0, 1, 0, 0, 0],
+        ];
+        assert_eq!(file, [&[3], entries.as_flattened(), &[7, 8, 9]].concat());
+    }
+}
