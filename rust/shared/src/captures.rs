@@ -1,4 +1,7 @@
-//! Capture files, made from their parts.
+//! Capture files: made from their parts, and read with the output expected of them.
+
+use crate::folder;
+use std::path::Path;
 
 /// A kind and its body.
 pub type Part = (u8, Vec<u8>);
@@ -36,6 +39,30 @@ pub fn worked() -> [Part; 3] {
     let mut cells = [[0; 5]; 8 * 16];
     cells[2 * 16 + 3] = [0, 0, 64, 0, 1];
     [(1, description), (2, load), (16, cells.concat())]
+}
+
+/// A real capture, with what a traced decoder left as the program's output.
+pub struct Captured {
+    pub name: String,
+    pub file: Vec<u8>,
+    pub output: Vec<u8>,
+}
+
+/// The captures of a folder, by name: `NAME.cap` with `NAME.out` beside it.
+pub fn read(folder: &Path) -> Result<Vec<Captured>, String> {
+    let paths = folder::files(folder, "cap")?;
+    if paths.is_empty() {
+        return Err(folder::told(folder, "no captures".to_string()));
+    }
+    let captured = |path: &Path| {
+        let name = path.file_stem().expect("a capture has its name");
+        Ok(Captured {
+            name: name.to_string_lossy().into_owned(),
+            file: folder::read(path)?,
+            output: folder::read(&path.with_extension("out"))?,
+        })
+    };
+    paths.iter().map(|path| captured(path)).collect()
 }
 
 #[cfg(test)]

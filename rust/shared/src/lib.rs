@@ -2,5 +2,6 @@
 //! capture files.
 
 pub mod captures;
+pub mod folder;
 pub mod sequences;
 pub mod split_mix;

@@ -1,7 +1,6 @@
 //! Reads the events out of traced sequences.
 
-use std::fs;
-use std::io;
+use crate::folder;
 use std::path::Path;
 use std::path::PathBuf;
 
@@ -22,32 +21,15 @@ pub struct Event<'a> {
 pub fn frames(folder: &Path) -> Result<Vec<[u8; FRAME_LEN]>, String> {
     let mut frames = Vec::new();
     for path in files(folder)? {
-        frames.extend(frames_of(&read(&path)?).map_err(|why| told(&path, why))?);
+        let told = |why| folder::told(&path, why);
+        frames.extend(frames_of(&folder::read(&path)?).map_err(told)?);
     }
     Ok(frames)
 }
 
-/// A sequence's bytes.
-pub fn read(path: &Path) -> Result<Vec<u8>, String> {
-    fs::read(path).map_err(|error| told(path, error.to_string()))
-}
-
-fn told(path: &Path, why: String) -> String {
-    format!("{}: {why}", path.display())
-}
-
 /// The sequences in a folder, by name.
 pub fn files(folder: &Path) -> Result<Vec<PathBuf>, String> {
-    let told = |error: io::Error| told(folder, error.to_string());
-    let mut paths = Vec::new();
-    for entry in fs::read_dir(folder).map_err(told)? {
-        let path = entry.map_err(told)?.path();
-        if path.extension().is_some_and(|extension| extension == "seq") {
-            paths.push(path);
-        }
-    }
-    paths.sort();
-    Ok(paths)
+    folder::files(folder, "seq")
 }
 
 fn frames_of(bytes: &[u8]) -> Result<Vec<[u8; FRAME_LEN]>, String> {

@@ -1,7 +1,9 @@
 //! Writes the test vectors from the Rust: for each list `stdin` holds the cases and `stdout` the
 //! answers. With `--check` it only compares. With `--take-frames` and a folder of traced sequences
-//! it writes `real/frames.bin`, which the frame list reads.
+//! it writes `real/frames.bin`, which the frame list reads. With `--captures` and a folder of real
+//! captures it replays them, and compares with what a traced decoder left.
 
+mod capture;
 mod cells;
 mod damage;
 mod frame;
@@ -30,7 +32,8 @@ fn main() -> ExitCode {
         [] => for_each_list(List::write),
         ["--check"] => for_each_list(List::check),
         ["--take-frames", folder] => real::take(Path::new(folder)),
-        _ => Err("only --check and --take-frames SEQUENCES_DIR are known".to_string()),
+        ["--captures", folder] => capture::real::check(Path::new(folder)),
+        _ => Err("usage: vectors [--check | --take-frames DIR | --captures DIR]".to_string()),
     };
     match done {
         Ok(()) => ExitCode::SUCCESS,

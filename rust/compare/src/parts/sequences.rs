@@ -5,6 +5,7 @@ use crate::options::Extent;
 use crate::options::Options;
 use crate::stream::Stream;
 use crate::tally::Tally;
+use shared::folder;
 use shared::sequences;
 use std::path::Path;
 
@@ -24,7 +25,7 @@ pub fn compare(options: &Options) -> Result<Tally, String> {
     let mut counts = [0; 256];
     for path in &files {
         let told = |why: String| format!("{}: {why}", path.display());
-        let bytes = sequences::read(path)?;
+        let bytes = folder::read(path)?;
         let mut stream = Stream::default();
         for (at, event) in sequences::events(&bytes).map_err(told)?.iter().enumerate() {
             let differing = stream.take(event, &mut tally).map_err(told)?;

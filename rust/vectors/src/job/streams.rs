@@ -13,6 +13,7 @@ use oracle::paper;
 use oracle::paper::FrameRecord;
 use oracle::paper::Job;
 use oracle::Window;
+use shared::folder;
 use std::collections::HashMap;
 use std::path::Path;
 
@@ -39,7 +40,7 @@ pub fn questions() -> Result<Vec<JobQuestion>, String> {
 
 fn question(stream: &str, number: u16, seed: u32) -> Result<JobQuestion, String> {
     let folder = Path::new(concat!(env!("CARGO_MANIFEST_DIR"), "/../../real/sequences"));
-    let bytes = sequences::read(&folder.join(stream).with_extension("seq"))?;
+    let bytes = folder::read(&folder.join(stream).with_extension("seq"))?;
     let mut traced = Traced::default();
     for event in sequences::events(&bytes)? {
         traced.take(&event)?;
