@@ -22,7 +22,7 @@ pub trait Case {
 
     fn bytes(&self) -> Vec<u8>;
 
-    /// The line in `stdout`, or why there is none.
+    /// What stands in `stdout` before the line's end, or why there is none.
     fn answer(&self) -> Result<String, String>;
 
     /// What an answer is counted under.
@@ -32,7 +32,8 @@ pub trait Case {
 }
 
 pub struct List {
-    name: &'static str,
+    /// Its folder in `crates/`.
+    folder: String,
     pub questions: Vec<u8>,
     answers: String,
     /// What the list holds, in one line.
@@ -40,8 +41,18 @@ pub struct List {
 }
 
 impl List {
+    /// One question without a head, for a program that answers no more.
+    pub fn single(folder: &str, question: Vec<u8>, answer: String) -> Self {
+        Self {
+            folder: folder.to_string(),
+            summary: format!("{folder}: 1 case"),
+            questions: question,
+            answers: answer,
+        }
+    }
+
     /// The cases in their order, none twice.
-    pub fn new<C: Case>(name: &'static str, cases: &[C]) -> Result<Self, String> {
+    pub fn new<C: Case>(name: &str, cases: &[C]) -> Result<Self, String> {
         let mut questions = Vec::new();
         let mut answers = String::new();
         let mut counts = BTreeMap::new();
@@ -62,7 +73,7 @@ impl List {
         }
         questions.splice(0..0, head(name, seen.len()));
         Ok(Self {
-            name,
+            folder: format!("{name}_vectors"),
             questions,
             answers,
             summary: summary(name, &counts),
@@ -70,7 +81,7 @@ impl List {
     }
 
     fn files(&self) -> [(PathBuf, &[u8]); 2] {
-        let folder = Path::new("crates").join(format!("{}_vectors", self.name));
+        let folder = Path::new("crates").join(&self.folder);
         [
             (folder.join("stdin"), self.questions.as_slice()),
             (folder.join("stdout"), self.answers.as_bytes()),

@@ -53,6 +53,8 @@ fn for_each_list(act: impl Fn(&List) -> Result<(), String>) -> Result<(), String
         save::list,
         load::list,
         job::list,
+        capture::list,
+        capture::worked_list,
     ] {
         let list = make()?;
         act(&list)?;

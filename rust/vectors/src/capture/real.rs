@@ -6,6 +6,22 @@ use shared::captures;
 use shared::captures::Captured;
 use std::path::Path;
 
+/// The sample that stands in the repository.
+const SAMPLE: &str = concat!(env!("CARGO_MANIFEST_DIR"), "/../../real/captures");
+
+/// The longest of them that the list has.
+const MOST: usize = 16 * 1024;
+
+/// The sample's files that aren't too long. Fails where an output isn't the traced decoder's.
+pub fn small() -> Result<Vec<Vec<u8>>, String> {
+    let mut captures = captures::read(Path::new(SAMPLE))?;
+    captures.retain(|captured| captured.file.len() <= MOST);
+    match captures.iter().find(|captured| !is_as_traced(captured)) {
+        Some(other) => Err(format!("{} isn't as traced", other.name)),
+        None => Ok(captures.into_iter().map(|it| it.file).collect()),
+    }
+}
+
 /// Replays all captures of a folder. Fails where an output is another than the traced decoder's.
 pub fn check(folder: &Path) -> Result<(), String> {
     let captures = captures::read(folder)?;
@@ -28,9 +44,6 @@ fn is_as_traced(captured: &Captured) -> bool {
 #[cfg(test)]
 mod tests {
     use super::*;
-
-    /// The sample that stands in the repository.
-    const SAMPLE: &str = concat!(env!("CARGO_MANIFEST_DIR"), "/../../real/captures");
 
     #[test]
     fn the_sample_is_as_traced() {

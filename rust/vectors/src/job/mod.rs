@@ -44,7 +44,7 @@ fn questions() -> Result<Vec<JobQuestion>, String> {
 }
 
 /// A load that isn't stepped yet.
-fn load(window: Window) -> Job {
+pub fn load(window: Window) -> Job {
     Job {
         kind: 0,
         window,
@@ -55,7 +55,7 @@ fn load(window: Window) -> Job {
 }
 
 /// A save that isn't stepped yet, from the first superblock row.
-fn save(window: Window) -> Job {
+pub fn save(window: Window) -> Job {
     Job {
         kind: 1,
         ..load(window)
