@@ -79,7 +79,7 @@ impl Prepared {
 /// The Rust can't hold a record whose size code is none. An admitted save doesn't read it, so that
 /// any other will do.
 fn hold(record: &mut [u8; 12]) {
-    if leaves::size(record[10]).is_none() {
+    if leaves::record(*record).is_none() {
         record[10] = 0;
     }
 }

@@ -9,7 +9,6 @@ use super::FrameRecord;
 use super::FLAG;
 use crate::save::Place;
 use crate::Window;
-use std::collections::HashSet;
 
 /// What a finished job's step answers: neither 0 nor a refusal.
 pub const DONE: u8 = 15;
@@ -73,9 +72,10 @@ pub fn batch_answer(handed: &Handed, jobs: &[Job]) -> u8 {
     if let Some(answer) = refused.into_iter().find(|&answer| answer != 0) {
         return answer;
     }
-    let mut cells = HashSet::new();
-    let mut windows = jobs.iter().flat_map(|job| window(handed.record, job));
-    if windows.all(|cell| cells.insert(cell)) {
+    let windows = jobs.iter().flat_map(|job| window(handed.record, job));
+    let mut cells: Vec<(u8, u32)> = windows.collect();
+    cells.sort_unstable();
+    if cells.windows(2).all(|pair| pair[0] != pair[1]) {
         0
     } else {
         11
