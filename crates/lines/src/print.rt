@@ -34,6 +34,13 @@ pub fn signed(c: i16) {
     io::print_decimal(STDOUT_FILENO, magnitude(c) as u64);
 }
 
+// A motion cell's numbers: the vector's y and x, and the reference or distance.
+pub fn motion(y: i16, x: i16, reference: i8) {
+    signed(y);
+    signed(x);
+    signed(reference as i16);
+}
+
 // What stands for a number that isn't there.
 pub fn absent() {
     io::write_all(STDOUT_FILENO, b" -");

@@ -103,9 +103,7 @@ fn show_place(letter: &[u8], first: usize, n: usize) {
 fn show_cell(c: Cell) {
     let mv = c.mv;
     let r = c.reference;
-    print::signed(mv.y);
-    print::signed(mv.x);
-    print::signed(r.0 as i16);
+    print::motion(mv.y, mv.x, r.0);
 }
 
 fn show_run(change: Change, first: usize, n: usize) {

@@ -1,10 +1,10 @@
--- `motion_cases::changes::show_cell` meets its contract.
+-- `lines::print::motion` meets its contract.
 -- Assumes nothing.
 use mir.Syntax.{w8, w16}
 use Rattle.ground.proofs.Bits.{widens}
 use borrow.Author.Needs.{needs}
-use Rattle.motion_cases.proofs.changes.show_cell.Statement.{statement}
-use Rattle.motion_cases.proofs.changes.show_cell.Tie as tie
+use Rattle.lines.proofs.print.motion.Statement.{statement}
+use Rattle.lines.proofs.print.motion.Tie as tie
 
 signed-requires : tie.Need-signed-requires
 signed-requires c κs = search needs
@@ -13,7 +13,7 @@ signed-requires-2 : tie.Need-signed-requires-2
 signed-requires-2 c κs = search needs
 
 cast-signed : tie.Need-cast-signed
-cast-signed c = widens {w = w8} w16 {z = c .before .before .before .before .before .before .before .before .args .c .reference .0} tt (search needs)
+cast-signed c = widens {w = w8} w16 {z = c .before .before .args .reference} tt (search needs)
 
 signed-requires-3 : tie.Need-signed-requires-3
 signed-requires-3 c κs = search needs
@@ -21,6 +21,6 @@ signed-requires-3 c κs = search needs
 returns : tie.Need-returns
 returns c = search needs
 
-pub show-cell-spec : {M : Type 1} → statement M
-show-cell-spec =
+pub motion-spec : {M : Type 1} → statement M
+motion-spec =
     tie.close (tie.spec signed-requires signed-requires-2 cast-signed signed-requires-3 returns)
