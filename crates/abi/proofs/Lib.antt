@@ -3,3 +3,4 @@ pub mod Lent
 pub mod Kept
 pub mod LentJobs
 pub mod KeptJobs
+pub mod Shown

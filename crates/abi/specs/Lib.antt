@@ -5,3 +5,4 @@ pub mod Tiled
 pub mod Moved
 pub mod JobBytes
 pub mod Batched
+pub mod Captured

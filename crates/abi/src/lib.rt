@@ -2,6 +2,7 @@
 // length. A frame record crosses as 109 bytes and a tile as 168, by `layout`; a job as 17, by
 // batches.
 pub mod batches;
+pub mod captures;
 pub mod frames;
 pub mod leaves;
 pub mod motions;

@@ -19,12 +19,12 @@ fn main() {
 }
 
 fn play_all() {
-    let mut length = [0u8; 4];
+    let mut size = [0u8; 4];
     for _ in 0..MOST_CASES {
-        if !input::fill(&mut length) {
+        if !input::fill(&mut size) {
             return;
         }
-        play_one(size_at(&length, 0));
+        play_one(size_at(&size, 0));
     }
 }
 
