@@ -3,7 +3,6 @@ use crate::splats::splat;
 use cells::block::Block;
 use cells::pos::Pos4;
 use layout::frame_bytes::FRAME;
-use layout::frame_bytes::frame_at;
 use layout::frame_bytes::sizes_at;
 use layout::frame_bytes::well_frame;
 use layout::tile_bytes::TILE;
@@ -11,7 +10,6 @@ use layout::tile_bytes::put_tile;
 use rows::setup::TileRange;
 use rows::setup::is_pass;
 use rows::setup::is_tile;
-use rows::setup::tile_of;
 use rows::splat::Splat;
 ghost use mathlib.Core.Path.{_≡_};
 ghost use Prim.Native.Nat.{_≤_};
@@ -44,8 +42,7 @@ fn admit(frame: &[u8], col: TileRange, row: TileRange, tile_row: usize, pass: us
     }
 }
 
-// The steps of `rows::setup::tile_sbrow_init` one by one: what that returns holds a tile beside a
-// refusal too, and so a table that is copied out of one of two places.
+// As `rows::setup::tile_sbrow_init`, on the record where it stands and into the lent part.
 fn set_row(
     frame: &[u8],
     col: TileRange,
@@ -63,8 +60,7 @@ fn set_row(
     if answer != 0 {
         return answer;
     }
-    let f = frame_at(frame);
-    put_tile(tile, tile_of(f, col, row, sby, tile_row, pass));
+    put_tile(tile, frame, col, row, sby, tile_row, pass);
     answer
 }
 

@@ -18,6 +18,9 @@ use Rattle.frame.proofs.Records.{frame-sizes}
 use Rattle.rows.specs.declared.table.Place.the-variants.{Absent}
 use Rattle.rows.specs.declared.table.RowEntry.{RowEntry}
 use Rattle.rows.specs.Table.{none, placeAt}
+use Rattle.rows.specs.declared.setup.TileRange.{TileRange}
+use Rattle.rows.specs.Setup.{inFrame, rowsAnswer}
+use Rattle.rows.proofs.Parts.{rows-accepted}
 use Rattle.rows.proofs.Tabled.{tab-at}
 use Rattle.rows.proofs.Splats.{entry-at}
 use Rattle.layout.specs.FrameBytes.{sizesAt, refHintAt, refHintsAt, mfmvAt, frameAt}
@@ -56,3 +59,11 @@ place-past l e h = sym (pick-false (getD (tileAt l .rows) e none .at) (le-ltb e 
 pub sizes-well : (l : List ℕ) {s : Sizes} {w : Bool} → s ≡ sizesAt l → w ≡ wellFrame (frameAt l) → not w ≡ false → wellSizes s ≡ true
 unfolding frameAt
 sizes-well l {w = w} e f n = rw e (frame-sizes (frameAt l) (sym f ∙ not-false w n))
+
+-- and what an accepted row setup tells of them
+pub sizes-accepted : (l : List ℕ) (col row : TileRange) (tile pass : ℕ) {s : Sizes} → s ≡ sizesAt l → rowsAnswer (frameAt l) col row tile pass ≡ 0
+    → (wellSizes s ≡ true) × (inFrame s tile ≡ true)
+unfolding frameAt
+sizes-accepted l col row tile pass e z =
+    let a = rows-accepted (frameAt l) col row tile pass z in
+    rw e (frame-sizes (frameAt l) (a .0), a .1)

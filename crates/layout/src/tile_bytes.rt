@@ -1,20 +1,27 @@
 // A tile in 168 bytes, 42 numbers of four bytes, the low byte first: the 37 entries of its table,
 // the start of its part of the projection, column start and end, row start and end.
+use crate::frame_bytes::sizes_at;
 use cells::pos::Pos4;
 use ground::read::size_at;
 use ground::write::put_size;
 use ground::write::put_sizes;
-use rows::setup::Tile;
 use rows::setup::TileRange;
+use rows::setup::part_start;
+use rows::setup::proj_start;
 use rows::table::Place;
-use rows::table::RowEntry;
+use rows::table::offset;
 ghost use mathlib.Core.Path.{_≡_};
-ghost use Prim.Native.Nat.{_+_, _*_, _≤_, min};
+ghost use mathlib.Core.Bool.{true};
+ghost use mathlib.Core.List.{_∷_, []};
+ghost use Prim.Native.Nat.{_+_, _*_, _≤_, _<_, _^_, min};
 ghost use lib.ListN.{length};
-ghost use Rattle.ground.specs.Put.{put};
-ghost use Rattle.ground.specs.Little.{fours};
-ghost use Rattle.rows.specs.Table.{tab, placeAt};
-ghost use Rattle.layout.specs.TileBytes.{absentMark, placeOf, placeNumber, rangeAt, tileAt, entryNumber, boundNumbers, tileBytes};
+ghost use Rattle.ground.specs.Put.{put, copies};
+ghost use Rattle.ground.specs.Little.{fourBytes, fours};
+ghost use Rattle.frame.specs.Sizes.{superblock};
+ghost use Rattle.rows.specs.Table.{tab, tableOf, placeAt};
+ghost use Rattle.rows.specs.Setup.{tileOf, rowsAnswer};
+ghost use Rattle.layout.specs.FrameBytes.{frameAt};
+ghost use Rattle.layout.specs.TileBytes.{absentMark, placeOf, rangeAt, tileAt, entryNumber, tileBytes};
 
 pub const TILE: usize = 168;
 
@@ -65,26 +72,59 @@ pub fn rows_at(s: &[u8]) -> TileRange
     range_at(s, 160, 164)
 }
 
-fn place_number(p: Place) -> usize
-    ensures { λ r. ⌜ r ≡ placeNumber p ⌝ }
+// No row, in each of the 37 entries.
+fn put_absent(s: &mut [u8])
+    requires { ⌜ 148 ≤ length (now s) ⌝ }
+    ensures { λ _. ⌜ now (s .exit) ≡ put (now (s .entry)) 0 (copies 148 (255 ∷ [])) ⌝ }
 {
-    match p {
-        Place::Absent => ABSENT,
-        Place::At(o) => o,
+    let mut i: usize = 0;
+    while i < 148 {
+        s[i] = 255;
+        i += 1;
     }
 }
 
-fn put_table(s: &mut [u8], rows: [RowEntry; 37])
-    requires { ⌜ 168 ≤ length (now s) ⌝ }
-    ensures { λ _. ⌜ now (s .exit) ≡ put (now (s .entry)) 0 (fours (tab (entryNumber rows) 0 37)) ⌝ }
+// The n entries from at on, for rows one behind the other.
+fn put_rows(s: &mut [u8], at: usize, n: usize, first: usize, stride: usize)
+    requires { ⌜ (4 * (at + n) ≤ length (now s)) × (first + n * stride < 2 ^ 64) ⌝ }
+    ensures { λ _. ⌜ now (s .exit) ≡ put (now (s .entry)) (4 * at) (fours (tab (λ i. first + i * stride) 0 n)) ⌝ }
 {
-    let mut e: usize = 0;
-    while e < 37 {
-        let entry = rows[e];
-        let p = entry.at;
-        put_size(s, 4 * e, place_number(p));
-        e += 1;
+    let mut r = first;
+    let mut i: usize = 0;
+    while i < n {
+        put_size(s, 4 * (at + i), r);
+        r += stride;
+        i += 1;
     }
+}
+
+// Three entries, every other one from at on, for rows that lie one step apart.
+fn put_three(s: &mut [u8], at: usize, r: usize, step: usize)
+    requires { ⌜ (4 * at + 20 ≤ length (now s)) × (r + 2 * step < 2 ^ 64) ⌝ }
+    ensures { λ _. ⌜ now (s .exit) ≡ put (put (put (now (s .entry)) (4 * at) (fourBytes r)) (4 * (at + 2)) (fourBytes (r + step))) (4 * (at + 4)) (fourBytes (r + 2 * step)) ⌝ }
+{
+    put_size(s, 4 * at, r);
+    put_size(s, 4 * (at + 2), r + step);
+    put_size(s, 4 * (at + 4), r + 2 * step);
+}
+
+// The table of `rows::table::table_of`, written where it is to stand, and in parts: a rule that is
+// asked for each entry takes three times as long. On an odd row the rows above have changed places
+// with the last rows of the superblock row.
+fn put_table(s: &mut [u8], sbsz: usize, odd: bool, first: usize, stride: usize)
+    requires { ⌜ (168 ≤ length (now s)) × (superblock sbsz ≡ true) × (first + sbsz * stride + 2 * stride < 2 ^ 64) ⌝ }
+    ensures { λ _. ⌜ now (s .exit) ≡ put (now (s .entry)) 0 (fours (tab (entryNumber (tableOf sbsz odd first stride)) 0 37)) ⌝ }
+{
+    let off = offset(sbsz, odd);
+    put_absent(s);
+    put_rows(s, off + 5, sbsz, first, stride);
+    let above = first + sbsz * stride;
+    if odd {
+        put_three(s, off + sbsz, above, stride);
+        put_three(s, off, first + (sbsz - 5) * stride, 2 * stride);
+        return;
+    }
+    put_three(s, off, above, stride);
 }
 
 // A start past four bytes becomes the largest number of four: no block lies behind either.
@@ -94,25 +134,41 @@ fn held(n: usize) -> usize
     if n < ABSENT { n } else { ABSENT }
 }
 
-fn put_bounds(s: &mut [u8], t: Tile)
+fn put_bounds(s: &mut [u8], proj: usize, col: TileRange, row: TileRange)
     requires { ⌜ 168 ≤ length (now s) ⌝ }
-    ensures { λ _. ⌜ now (s .exit) ≡ put (now (s .entry)) 148 (fours (boundNumbers t)) ⌝ }
+    ensures { λ _. ⌜ now (s .exit) ≡ put (now (s .entry)) 148 (fours (proj ∷ min (col .start .0) absentMark ∷ col .end .0 ∷ min (row .start .0) absentMark ∷ row .end .0 ∷ [])) ⌝ }
 {
     let numbers = [
-        t.proj,
-        held(t.col.start.0),
-        t.col.end.0,
-        held(t.row.start.0),
-        t.row.end.0,
+        proj,
+        held(col.start.0),
+        col.end.0,
+        held(row.start.0),
+        row.end.0,
     ];
     put_sizes(s, 148, &numbers);
 }
 
-pub fn put_tile(s: &mut [u8], t: Tile)
-    requires { ⌜ 168 ≤ length (now s) ⌝ }
-    ensures { λ _. ⌜ now (s .exit) ≡ put (now (s .entry)) 0 (tileBytes t) ⌝ }
+// The tile of `rows::setup::tile_of` over the start of s, for a frame record where it stands. No
+// table is made elsewhere and copied.
+pub fn put_tile(
+    s: &mut [u8],
+    frame: &[u8],
+    col: TileRange,
+    row: TileRange,
+    sby: usize,
+    tile: usize,
+    pass: usize,
+)
+    requires { ⌜ (168 ≤ length (now s)) × (109 ≤ length (now frame)) × (rowsAnswer (frameAt (now frame)) col row tile pass ≡ 0) ⌝ }
+    ensures { λ _. ⌜ now (s .exit) ≡ put (now (s .entry)) 0 (tileBytes (tileOf (frameAt (now (frame .entry))) col row sby tile pass)) ⌝ }
 {
-    let rows = t.rows;
-    put_table(s, rows);
-    put_bounds(s, t);
+    let z = sizes_at(frame);
+    put_table(
+        s,
+        z.sbsz,
+        sby % 2 == 1,
+        part_start(z, tile, pass),
+        2 * z.stride,
+    );
+    put_bounds(s, proj_start(z, tile), col.cut_to(z.iw4), row.cut_to(z.ih4));
 }

@@ -14,7 +14,6 @@ use Rattle.frame.specs.Sizes.{superblock, partOf, passesOf, records, wellSizes}
 use Rattle.frame.proofs.Sizing.{Fits, fits, part-fits, blocks-most, records-most}
 use Rattle.frame.specs.declared.record.Frame.{Frame}
 use Rattle.frame.specs.Record.{wellFrame}
-use Rattle.frame.proofs.Records.{frame-sizes}
 use Rattle.rows.specs.declared.setup.TileRange.{TileRange}
 use Rattle.rows.specs.Setup.{passStart, partStart, ordered, inFrame, isPass, rowsAnswer}
 use Rattle.rows.proofs.Tabled.{sides}
@@ -45,16 +44,23 @@ side-most n r e = by (sides n e)
     by (inl h) = mul-le-mul-right r (omega arith)
     by (inr h) = mul-le-mul-right r (omega arith)
 
+-- a tile row's part starts, and its 35 rows end, below 2 ^ 32
+pub start-fits : (s : Sizes) (tile pass : ℕ) → wellSizes s ≡ true → inFrame s tile ≡ true → partStart s (partOf s tile) pass + 70 * s .stride < 2 ^ 32
+start-fits s tile pass e h =
+    let f = fits s e in
+    omega (arith, records-fit s f, part-listed s (partOf s tile) pass (part-fits s tile f (in-frame s tile h)))
+
 pub rows-fit : (s : Sizes) (tile pass : ℕ) → wellSizes s ≡ true → inFrame s tile ≡ true
     → partStart s (partOf s tile) pass + s .sbsz * (2 * s .stride) + 2 * (2 * s .stride) < 2 ^ 64
 rows-fit s tile pass e h =
-    let f = fits s e in
-    let p = part-listed s (partOf s tile) pass (part-fits s tile f (in-frame s tile h)) in
-    let n = side-most (s .sbsz) (2 * s .stride) (f .superblock) in
-    omega (arith, records-fit s f)
+    let n = side-most (s .sbsz) (2 * s .stride) (fits s e .superblock) in
+    omega (arith, start-fits s tile pass e h)
 
 pub blocks-fit : (s : Sizes) → Fits s → s .«n_blocks» < 2 ^ 32
 blocks-fit s f = omega (arith, f .blocks, blocks-most (s .width) (s .«tile_rows») (s .«n_tile_threads») (f .limits .width .fits) (f .limits .rows))
+
+pub part-small : (s : Sizes) (tile : ℕ) → wellSizes s ≡ true → inFrame s tile ≡ true → partOf s tile * s .stride < 2 ^ 32
+part-small s tile e h = let f = fits s e in omega (arith, part-fits s tile f (in-frame s tile h), blocks-fit s f)
 
 -- what an accepted row setup tells
 pub rows-accepted : (f : Frame) (col row : TileRange) (tile pass : ℕ) → rowsAnswer f col row tile pass ≡ 0 → (wellFrame f ≡ true) × (inFrame (f .sizes) tile ≡ true)
@@ -68,10 +74,3 @@ rows-accepted f col row tile pass e =
     by true true false i h = absurd (omega arith)
     by true false o i h = absurd (omega arith)
     by false w o i h = absurd (omega arith)
-
-pub proj-fits : (f : Frame) (col row : TileRange) (tile pass : ℕ) → rowsAnswer f col row tile pass ≡ 0
-    → 16 * (partOf (f .sizes) tile * f .sizes .stride) < 2 ^ 64
-proj-fits f col row tile pass e =
-    let a = rows-accepted f col row tile pass e in
-    let k = fits (f .sizes) (frame-sizes f (a .0)) in
-    omega (arith, part-fits (f .sizes) tile k (in-frame (f .sizes) tile (a .1)), blocks-fit (f .sizes) k)

@@ -7,9 +7,9 @@ use frame::record::Frame;
 use frame::sizes::Sizes;
 ghost use mathlib.Core.Path.{_≡_};
 ghost use mathlib.Core.Bool.{true, _&&_};
-ghost use Prim.Native.Nat.{min};
-ghost use Rattle.frame.specs.Sizes.{wellSizes};
-ghost use Rattle.rows.specs.Setup.{passStart, tableFor, cutTo, tileOf, ordered, inFrame, isPass, rowsAnswer, noTile, rowSetupOf};
+ghost use Prim.Native.Nat.{_*_, min};
+ghost use Rattle.frame.specs.Sizes.{partOf, wellSizes};
+ghost use Rattle.rows.specs.Setup.{passStart, partStart, tableFor, cutTo, tileOf, ordered, inFrame, isPass, rowsAnswer, noTile, rowSetupOf};
 
 // From start to before end.
 pub struct TileRange {
@@ -39,7 +39,7 @@ impl TileRange {
         self.start.0 <= self.end.0
     }
 
-    fn cut_to(self, most: Pos4) -> TileRange
+    pub fn cut_to(self, most: Pos4) -> TileRange
         ensures { λ r. ⌜ r ≡ cutTo (most .0) self ⌝ }
     {
         let start = self.start;
@@ -104,13 +104,33 @@ fn pass_start(s: Sizes, pass: usize) -> usize
     0
 }
 
+// The first record of a tile row's part, in a pass.
+pub fn part_start(s: Sizes, tile: usize, pass: usize) -> usize
+    requires { ⌜ (wellSizes s ≡ true) × (inFrame s tile ≡ true) ⌝ }
+    ensures { λ r. ⌜ r ≡ partStart s (partOf s tile) pass ⌝ }
+{
+    70 * (s.part(tile) * s.stride) + pass_start(s, pass)
+}
+
+// The first cell of a tile row's part of the projection.
+pub fn proj_start(s: Sizes, tile: usize) -> usize
+    requires { ⌜ (wellSizes s ≡ true) × (inFrame s tile ≡ true) ⌝ }
+    ensures { λ r. ⌜ r ≡ 16 * (partOf s tile * s .stride) ⌝ }
+{
+    16 * (s.part(tile) * s.stride)
+}
+
 // The table of a superblock row of a tile row, in a pass.
 pub fn table_for(s: Sizes, sby: usize, tile: usize, pass: usize) -> [RowEntry; 37]
     requires { ⌜ (wellSizes s ≡ true) × (inFrame s tile ≡ true) ⌝ }
     ensures { λ r. ⌜ r ≡ tableFor s sby tile pass ⌝ }
 {
-    let first = 70 * (s.part(tile) * s.stride) + pass_start(s, pass);
-    table_of(s.sbsz, sby % 2 == 1, first, 2 * s.stride)
+    table_of(
+        s.sbsz,
+        sby % 2 == 1,
+        part_start(s, tile, pass),
+        2 * s.stride,
+    )
 }
 
 pub fn tile_of(
@@ -128,7 +148,7 @@ pub fn tile_of(
     let rows = table_for(s, sby, tile, pass);
     Tile {
         rows,
-        proj: 16 * (s.part(tile) * s.stride),
+        proj: proj_start(s, tile),
         col: col.cut_to(s.iw4),
         row: row.cut_to(s.ih4),
     }

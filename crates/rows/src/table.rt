@@ -48,7 +48,7 @@ fn swap(rows: [RowEntry; 37], i: usize, j: usize) -> [RowEntry; 37]
 
 // Where the superblock row's own part of the table starts: an odd row of small superblocks has the
 // lower half.
-fn offset(sbsz: usize, odd: bool) -> usize
+pub fn offset(sbsz: usize, odd: bool) -> usize
     ensures { λ r. ⌜ r ≡ offsetOf sbsz odd ⌝ }
 {
     if odd {

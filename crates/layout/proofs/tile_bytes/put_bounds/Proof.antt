@@ -1,6 +1,5 @@
 -- `layout::tile_bytes::put_bounds` meets its contract.
 -- Assumes nothing.
-use Rattle.layout.specs.TileBytes.{boundNumbers}
 use borrow.Author.Needs.{needs}
 use Rattle.layout.proofs.tile_bytes.put_bounds.Statement.{statement}
 use Rattle.layout.proofs.tile_bytes.put_bounds.Tie as tie
@@ -21,7 +20,6 @@ same-length : tie.Need-same-length
 same-length c = search needs
 
 returns : tie.Need-returns
-unfolding boundNumbers
 returns c = rw (← c .before .before .before .before .before .before .held .ensures, ← c .before .before .before .before .before .held2 .ensures) (c .before .before .put-sizes .ensures)
 
 pub put-bounds-spec : {M : Type 1} → statement M

@@ -1,72 +1,85 @@
 -- `layout::tile_bytes::put_table` meets its contract.
 -- Assumes nothing.
-use mathlib.Core.Path.{_≡_, refl, sym, ap, _∙_}
-use Prim.Native.Nat.{ℕ, _-_, _*_, _≤_}
 use native.Mathlib.Omega.{arith}
-use lib.ListN.{length}
-use Rattle.ground.specs.Put.{put}
-use Rattle.ground.specs.Little.{fourBytes, fours}
-use Rattle.rows.specs.Table.{tab}
-use Rattle.layout.specs.TileBytes.{entryNumber}
-use Rattle.layout.proofs.Entries.{table-on, table-done}
+use Rattle.rows.proofs.Tabled.{off-fits}
+use Rattle.layout.proofs.Entries.{ends, odd-table, even-table}
 use borrow.Author.Needs.{needs}
 use Rattle.layout.proofs.tile_bytes.put_table.Statement.{statement}
 use Rattle.layout.proofs.tile_bytes.put_table.Tie as tie
 
-abbrev Inv-loop : tie.InvT-loop
-Inv-loop s₀ rows e₀ s e = (e ≤ 37) × (length s ≡ length s₀) × (put s (4 * e) (fours (tab (entryNumber rows) e (37 - e))) ≡ put s₀ 0 (fours (tab (entryNumber rows) 0 37)))
+offset-requires : tie.Need-offset-requires
+offset-requires c κs = search needs
 
-abbrev μ-loop : tie.MeasureT-loop
-μ-loop s₀ rows e₀ s e = 37 - e
+put-absent-requires : tie.Need-put-absent-requires
+put-absent-requires c κs = search needs
 
-loop-holds : tie.Need-loop-holds Inv-loop μ-loop
-loop-holds c = (omega arith, refl, refl)
+add-put-rows : tie.Need-add-put-rows
+add-put-rows c = let s = c .before .before .before .before .before .before .before in let o = off-fits (s .args .sbsz) (s .args .odd) (s .pre .1) in let e = c .before .before .before .before .before .offset .ensures in record { fits = omega arith }
 
-mul-entry : tie.Need-mul-entry Inv-loop μ-loop
-mul-entry c = search needs
+put-rows-requires : tie.Need-put-rows-requires
+put-rows-requires c κs = let s = c .before .before .before .before .before .before .before in let o = off-fits (s .args .sbsz) (s .args .odd) (s .pre .1) in let e = c .before .before .before .before .before .offset .ensures in omega arith
 
-array-copy-out-entry : tie.Need-array-copy-out-entry Inv-loop μ-loop
-array-copy-out-entry c = search needs
+mul-above : tie.Need-mul-above
+mul-above c = search needs
 
-mul-put-size : tie.Need-mul-put-size Inv-loop μ-loop
-mul-put-size c = search needs
+add-above : tie.Need-add-above
+add-above c = search needs
 
-place-number-requires : tie.Need-place-number-requires Inv-loop μ-loop
-place-number-requires c κs = search needs
+add-put-three : tie.Need-add-put-three
+add-put-three c = let s = c .before .before .before .before .before .before .before .before .before .before .before .before in let o = off-fits (s .args .sbsz) (s .args .odd) (s .pre .1) in let e = c .before .before .before .before .before .before .before .before .before .before .offset .ensures in record { fits = omega arith }
 
-put-size-requires : tie.Need-put-size-requires Inv-loop μ-loop
-put-size-requires c κs = search needs
+put-three-requires : tie.Need-put-three-requires
+put-three-requires c κs = let s = c .before .before .before .before .before .before .before .before .before .before .before .before in let o = off-fits (s .args .sbsz) (s .args .odd) (s .pre .1) in let e = c .before .before .before .before .before .before .before .before .before .before .offset .ensures in omega arith
 
-add-e : tie.Need-add-e Inv-loop μ-loop
-add-e c = search needs
+sub-put-three : tie.Need-sub-put-three
+sub-put-three c = let s = c .before .before .before .before .before .before .before .before .before .before .before .before .before .before .before .before in let m = ends (s .args .sbsz) (s .args .stride) (s .pre .1) in m .five
 
-loop-less : tie.Need-loop-less Inv-loop μ-loop
-loop-less c = search needs
+mul-put-three : tie.Need-mul-put-three
+mul-put-three c = let s = c .before .before .before .before .before .before .before .before .before .before .before .before .before .before .before .before in let m = ends (s .args .sbsz) (s .args .stride) (s .pre .1) in record { fits = omega (arith, m .last, m .fits) }
 
-loop-again : tie.Need-loop-again Inv-loop μ-loop
-unfolding entryNumber
-loop-again c = let l = c .before .before .before .before .before .before .before .loop in let a = c .before .before .before .before .before .before .before .before .before .args in (omega arith, search needs, table-on (l .s) _ (entryNumber (a .t2)) (l .e) (c .before .before .before .before .before .before .loop-test .taken) (c .before .before .put-size .ensures ∙ ap (λ (n : ℕ). put (l .s) (4 * l .e) (fourBytes n)) (c .before .before .before .place-number .ensures)) ∙ l .inv .2)
+add-put-three-2 : tie.Need-add-put-three-2
+add-put-three-2 c = let s = c .before .before .before .before .before .before .before .before .before .before .before .before .before .before .before .before in let m = ends (s .args .sbsz) (s .args .stride) (s .pre .1) in record { fits = omega (arith, m .last, m .fits) }
 
-same-length : tie.Need-same-length Inv-loop μ-loop
+mul-put-three-2 : tie.Need-mul-put-three-2
+mul-put-three-2 c = search needs
+
+put-three-requires-2 : tie.Need-put-three-requires-2
+put-three-requires-2 c κs = let s = c .before .before .before .before .before .before .before .before .before .before .before .before .before .before .before .before in let m = ends (s .args .sbsz) (s .args .stride) (s .pre .1) in let o = off-fits (s .args .sbsz) (s .args .odd) (s .pre .1) in let e = c .before .before .before .before .before .before .before .before .before .before .before .before .before .before .offset .ensures in omega (arith, m .last, m .fits)
+
+same-length : tie.Need-same-length
 same-length c = search needs
 
-returns : tie.Need-returns Inv-loop μ-loop
-returns c = let l = c .before .loop in let a = c .before .before .before .args in sym (table-done (l .s) (4 * l .e) (entryNumber (a .t2)) (l .e) (c .loop-test .left)) ∙ l .inv .2
+returns : tie.Need-returns
+returns c = let s = c .before .before .before .before .before .before .before .before .before .before .before .before .before .before .before .before .before .before .before in odd-table (s .args .s .now) (s .args .sbsz) (s .args .first) (s .args .stride) (s .pre .1) (s .args .odd) (c .before .before .before .before .before .before .before .before .if1 .taken) (c .before .before .before .before .before .before .before .before .before .before .before .before .before .before .before .before .before .offset .ensures) (c .before .before .before .before .before .before .before .before .before .before .before .before .before .before .before .put-absent .ensures) (c .before .before .before .before .before .before .before .before .before .before .before .put-rows .ensures) (c .before .before .before .before .before .before .put-three .ensures) (c .before .before .put-three2 .ensures)
+
+put-three-requires-3 : tie.Need-put-three-requires-3
+put-three-requires-3 c κs = let s = c .before .before .before .before .before .before .before .before .before .before .before .before in let o = off-fits (s .args .sbsz) (s .args .odd) (s .pre .1) in let e = c .before .before .before .before .before .before .before .before .before .before .offset .ensures in omega arith
+
+same-length-2 : tie.Need-same-length-2
+same-length-2 c = search needs
+
+returns-2 : tie.Need-returns-2
+returns-2 c = let s = c .before .before .before .before .before .before .before .before .before .before .before .before .before .before .before in even-table (s .args .s .now) (s .args .sbsz) (s .args .first) (s .args .stride) (s .pre .1) (s .args .odd) (c .before .before .before .before .if1 .left) (c .before .before .before .before .before .before .before .before .before .before .before .before .before .offset .ensures) (c .before .before .before .before .before .before .before .before .before .before .before .put-absent .ensures) (c .before .before .before .before .before .before .before .put-rows .ensures) (c .before .before .put-three3 .ensures)
 
 pub put-table-spec : {M : Type 1} → statement M
 put-table-spec =
     tie.close
     (tie.spec
-    Inv-loop
-    μ-loop
-    loop-holds
-    mul-entry
-    array-copy-out-entry
-    mul-put-size
-    place-number-requires
-    put-size-requires
-    add-e
-    loop-less
-    loop-again
+    offset-requires
+    put-absent-requires
+    add-put-rows
+    put-rows-requires
+    mul-above
+    add-above
+    add-put-three
+    put-three-requires
+    sub-put-three
+    mul-put-three
+    add-put-three-2
+    mul-put-three-2
+    put-three-requires-2
     same-length
-    returns)
+    returns
+    put-three-requires-3
+    same-length-2
+    returns-2)
