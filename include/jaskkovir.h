@@ -42,6 +42,9 @@ extern "C" {
 /* Bytes of a job. */
 #define JASKKOVIR_JOB_LEN 17
 
+/* Bytes of what a capture's jobs took; shorter ones are refused in the same way. */
+#define JASKKOVIR_STEPS_LEN 32
+
 /* What a step of a finished job answers: neither acceptance nor a refusal. */
 #define JASKKOVIR_DONE 15
 
@@ -189,6 +192,16 @@ uint8_t jaskkovir_step(const uint8_t *frame, size_t frame_len, const uint8_t *pr
                        const uint8_t *f4, size_t f4_len, const uint8_t *f5, size_t f5_len,
                        const uint8_t *f6, size_t f6_len, const uint8_t *recs, size_t recs_len,
                        uint8_t *proj, size_t proj_len, uint8_t *saved, size_t saved_len);
+
+/* Plays a capture file, which has a frame's description, its jobs, and the records and fields that
+ * they read: the frame is set up, the jobs are admitted together, and run to their ends in list
+ * order. A file has at most 65,536 bytes, its frame at most 256 x 256 samples and four tile rows.
+ * Fields are lent where the file has them, and proj and saved hold what jaskkovir_listed_sizes says.
+ * Answers 0 to 4, 6 to 9 or 11 to 13. Only on 0 it writes: all whole cells of proj, which are
+ * INVALID with reference 0 before the first job; all whole cells of saved, which are zero then; and
+ * the first 32 bytes of steps, eight u32: how many steps each job had, 0 behind the last. */
+uint8_t jaskkovir_play(const uint8_t *file, size_t file_len, uint8_t *proj, size_t proj_len,
+                       uint8_t *saved, size_t saved_len, uint8_t *steps, size_t steps_len);
 
 #ifdef __cplusplus
 }

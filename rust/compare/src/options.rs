@@ -2,7 +2,8 @@ use crate::parts;
 use shared::split_mix::SplitMix64;
 use std::path::PathBuf;
 
-const USAGE: &str = "compare --short | --long | --sequences DIR, [--seed N] [--only PART]";
+const USAGE: &str =
+    "compare --short | --long | --sequences DIR | --captures DIR, [--seed N] [--only PART]";
 
 const SEED: u64 = 20261115;
 
@@ -13,6 +14,8 @@ pub enum Extent {
     Long,
     /// Only the sequences of a folder.
     Sequences(PathBuf),
+    /// Only the captures of a folder.
+    Captures(PathBuf),
 }
 
 #[derive(Debug)]
@@ -32,6 +35,7 @@ impl Options {
                 "--short" => extent = Some(Extent::Short),
                 "--long" => extent = Some(Extent::Long),
                 "--sequences" => extent = Some(Extent::Sequences(value()?.into())),
+                "--captures" => extent = Some(Extent::Captures(value()?.into())),
                 "--seed" => seed = number(value()?)?,
                 "--only" => only = Some(part(value()?)?),
                 _ => return Err(USAGE.to_string()),
@@ -43,8 +47,12 @@ impl Options {
 
     pub fn wants(&self, part: &str) -> bool {
         let asked = self.only.as_ref().is_none_or(|only| only == part);
-        let sequences = matches!(self.extent, Extent::Sequences(_));
-        asked && (!sequences || part == parts::SEQUENCES)
+        let alone = match self.extent {
+            Extent::Sequences(_) => Some(parts::SEQUENCES),
+            Extent::Captures(_) => Some(parts::CAPTURES),
+            Extent::Short | Extent::Long => None,
+        };
+        asked && alone.is_none_or(|alone| alone == part)
     }
 
     /// As many cases as the extent has room for.
@@ -93,6 +101,8 @@ mod tests {
         assert!(options.wants("splat") && !options.wants("rows"));
         let options = read("--sequences there").unwrap();
         assert!(options.wants(parts::SEQUENCES) && !options.wants("splat"));
+        let options = read("--captures there").unwrap();
+        assert!(options.wants(parts::CAPTURES) && !options.wants(parts::SEQUENCES));
     }
 
     #[test]

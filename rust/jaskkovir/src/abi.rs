@@ -168,4 +168,16 @@ extern "C" {
         saved: *mut u8,
         saved_len: usize,
     ) -> u8;
+
+    // crates/abi/src/captures.rt
+    pub fn jaskkovir_play(
+        file: *const u8,
+        file_len: usize,
+        proj: *mut u8,
+        proj_len: usize,
+        saved: *mut u8,
+        saved_len: usize,
+        steps: *mut u8,
+        steps_len: usize,
+    ) -> u8;
 }

@@ -132,3 +132,25 @@ pub fn splat_mv(frame: &[u8], tile: &[u8], record: &[u8], block: &Block, records
         )
     }
 }
+
+/// The bytes of `steps` that [`play`] writes.
+pub const STEPS_LEN: usize = 32;
+
+/// Plays a capture file whole. Accepted, every whole cell of `projection` starts as INVALID with
+/// reference 0 and every one of `saved` as zero, the jobs run in list order, and the first 32 bytes
+/// of `steps` become eight u32: how many steps each job had, 0 behind the last.
+pub fn play(file: &[u8], projection: &mut [u8], saved: &mut [u8], steps: &mut [u8]) -> u8 {
+    // SAFETY: The parts are slices, and none shares a byte with one written to.
+    unsafe {
+        abi::jaskkovir_play(
+            file.as_ptr(),
+            file.len(),
+            projection.as_mut_ptr(),
+            projection.len(),
+            saved.as_mut_ptr(),
+            saved.len(),
+            steps.as_mut_ptr(),
+            steps.len(),
+        )
+    }
+}

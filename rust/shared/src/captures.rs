@@ -24,6 +24,17 @@ pub fn file(parts: &[Part]) -> Vec<u8> {
     file
 }
 
+/// The parts of a well-formed file.
+pub fn parts(file: &[u8]) -> Vec<Part> {
+    let (entries, _) = file[1..].as_chunks::<ENTRY_LEN>();
+    let part = |&[kind, o0, o1, o2, o3, l0, l1, l2, l3]: &[u8; ENTRY_LEN]| {
+        let [offset, length] = [[o0, o1, o2, o3], [l0, l1, l2, l3]].map(u32::from_le_bytes);
+        let body = &file[offset as usize..][..length as usize];
+        (kind, body.to_vec())
+    };
+    entries.iter().take(file[0].into()).map(part).collect()
+}
+
 /// The output of document 01's worked example.
 pub const WORKED_OUTPUT: &str = "job 0 answer 0 steps 16\np 2 2 0 64 1\n";
 
@@ -71,7 +82,9 @@ mod tests {
 
     #[test]
     fn bodies_follow_the_entries() {
-        let file = file(&[(1, vec![7, 8]), (16, vec![]), (2, vec![9])]);
+        let made = [(1, vec![7, 8]), (16, vec![]), (2, vec![9])];
+        let file = file(&made);
+        assert_eq!(parts(&file), made);
         let entries = [
             [1, 28, 0, 0, 0, 2, 0, 0, 0],
             [16, 30, 0, 0, 0, 0, 0, 0, 0],

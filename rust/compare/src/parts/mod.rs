@@ -1,5 +1,6 @@
 //! The parts of the comparison, each a function from the options to what it saw.
 
+mod captures;
 mod checks;
 mod example;
 mod jobs;
@@ -21,6 +22,8 @@ pub type Part = fn(&Options) -> Result<Tally, String>;
 
 pub const SEQUENCES: &str = "sequences";
 
+pub const CAPTURES: &str = "captures";
+
 /// All parts, in the order in which they run.
 pub fn all() -> impl Iterator<Item = (&'static str, Part)> {
     let parts: Vec<(&'static str, Part)> = vec![
@@ -35,6 +38,7 @@ pub fn all() -> impl Iterator<Item = (&'static str, Part)> {
         ("load", loads::compare),
         ("jobs", jobs::compare),
         ("shorts", shorts::compare),
+        (CAPTURES, captures::compare),
         (SEQUENCES, sequences::compare),
         ("example", example::compare),
     ];

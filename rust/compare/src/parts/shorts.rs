@@ -9,6 +9,7 @@ use jaskkovir::calls;
 use jaskkovir::calls::Block;
 use jaskkovir::calls::Description;
 use jaskkovir::calls::Row;
+use jaskkovir::calls::STEPS_LEN;
 use jaskkovir::jobs;
 use jaskkovir::jobs::Sources;
 use jaskkovir::refusal::BUFFER;
@@ -19,6 +20,7 @@ use jaskkovir::Frame;
 use jaskkovir::Job;
 use jaskkovir::Listed;
 use jaskkovir::Tile;
+use shared::captures;
 use shared::split_mix::SplitMix64;
 
 /// Each length of each part, with the others whole; the numbers are anything.
@@ -33,6 +35,7 @@ pub fn compare(options: &Options) -> Result<Tally, String> {
         save_tmvs(&mut random, &mut tally);
         load_tmvs(&mut random, &mut tally);
         jobs(&mut random, &mut tally);
+        play(&mut random, &mut tally);
     }
     Ok(tally)
 }
@@ -200,6 +203,21 @@ fn jobs(random: &mut SplitMix64, tally: &mut Tally) {
         let answer = jobs::step(&sources, &mut after, k, &mut projection, &mut saved);
         let as_lent = after == batch && [projection, saved] == [part; 2];
         told(tally, "step", &lens, answer, as_lent);
+    }
+}
+
+fn play(random: &mut SplitMix64, tally: &mut Tally) {
+    let mut file = captures::file(&captures::worked());
+    if random.below(2) == 0 {
+        file.truncate(random.below(file.len()));
+    }
+    let (lent, lent_steps) = (random.bytes::<2000>(), random.bytes::<STEPS_LEN>());
+    for lens in short_lens([STEPS_LEN]) {
+        let (mut projection, mut saved, mut steps) = (lent, lent, lent_steps);
+        let part = &mut steps[..lens[0]];
+        let answer = calls::play(&file, &mut projection, &mut saved, part);
+        let as_lent = [projection, saved] == [lent; 2] && steps == lent_steps;
+        told(tally, "play", &lens, answer, as_lent);
     }
 }
 
