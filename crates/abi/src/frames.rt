@@ -1,9 +1,9 @@
 // Frame setup, the check of a record and the listed sizes, on lent bytes.
 use frame::description::Description;
+use frame::description::admit;
 use frame::record::Listed;
 use frame::record::check;
 use frame::record::listed_sizes;
-use frame::setup::init_lent;
 use ground::write::put_sizes;
 use layout::frame_bytes::FRAME;
 use layout::frame_bytes::frame_at;
@@ -47,18 +47,17 @@ fn init_lacks(hints: usize, hints_by_ref: usize, present: usize, frame: usize) -
     frame < FRAME
 }
 
-fn set_up(d: Description, held: &[u8], present: [u8; 7], frame: &mut [u8]) -> u8
-    requires { ⌜ (now held ≡ d .«hints_by_ref») × (109 ≤ length (now frame)) ⌝ }
+// As `frame::setup::init_frame`, into the lent part: hints and held are d's, where they were lent.
+fn set_up(d: Description, hints: &[u8], held: &[u8], present: [u8; 7], frame: &mut [u8]) -> u8
+    requires { ⌜ (now hints ≡ d .hints) × (now held ≡ d .«hints_by_ref») × (109 ≤ length (now frame)) ⌝ }
     ensures { λ r. ⌜ r ≡ setupAnswer d present ⌝ }
     ensures { λ _. ⌜ now (frame .exit) ≡ run (accepted (setupAnswer d present) (whole (frameBytes (frameOf d present)))) (now (frame .entry)) ⌝ }
 {
-    let made = init_lent(d, held, present);
-    let answer = made.answer;
+    let answer = admit(d, held, present);
     if answer != 0 {
         return answer;
     }
-    let f = made.frame;
-    put_frame(frame, f);
+    put_frame(frame, d, hints, held, present);
     answer
 }
 
@@ -86,7 +85,7 @@ pub extern "C" fn jaskkovir_init_frame(
     if init_lacks(hints.len(), hints_by_ref.len(), present.len(), frame.len()) {
         return 4;
     }
-    let hints = seven(hints);
+    let own = seven(hints);
     let held = forty_nine(hints_by_ref);
     let d = Description {
         width,
@@ -94,14 +93,20 @@ pub extern "C" fn jaskkovir_init_frame(
         sb128,
         hint_bits,
         current_hint,
-        hints,
+        hints: own,
         hints_by_ref: held,
         tile_rows,
         tile_threads,
         frame_threads,
         temporal,
     };
-    set_up(d, &hints_by_ref[..HINTS_BY_REF], seven(present), frame)
+    set_up(
+        d,
+        &hints[..HINTS],
+        &hints_by_ref[..HINTS_BY_REF],
+        seven(present),
+        frame,
+    )
 }
 
 // Whether bytes that come back are a record that setup can give.

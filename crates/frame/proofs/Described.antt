@@ -3,7 +3,7 @@
 use mathlib.Core.Path.{_≡_, refl, ap, _∙_}
 use mathlib.Core.Bool.{Bool, true, false}
 use mathlib.Core.List.{List}
-use Prim.Native.Nat.{ℕ, suc, _+_, _*_, _^_, _≤_, _<_}
+use Prim.Native.Nat.{ℕ, suc, _+_, _^_, _≤_, _<_}
 use native.Mathlib.Omega.{arith}
 use lib.Dec.{ltb}
 use lib.ListN.{length, getD}
@@ -11,7 +11,7 @@ use borrow.Author.Tests.{le-ltb, lt-ltb, ltb-true, leb-true}
 use Rattle.ground.specs.Pick.{pick}
 use Rattle.ground.specs.Below.{allBelow}
 use Rattle.ground.proofs.Belows as belows
-use Rattle.frame.specs.Description.{under, flags, hinted, sized, setupAnswer, hintAt, heldAt}
+use Rattle.frame.specs.Description.{under, flags, hinted, sized, setupAnswer, hintAt, ofHints}
 use Rattle.frame.specs.Sizes.{limits}
 use Rattle.frame.specs.declared.description.Description.{Description}
 use Rattle.ground.proofs.Picks.{both}
@@ -60,14 +60,16 @@ pub hint-fits : (d : Description) (r : ℕ) {h : ℕ} → hinted d ≡ true → 
 unfolding hintAt
 hint-fits d r e i l = let k = under-at (d .hints) (2 ^ d .«hint_bits») r (hints d e .hints) l in omega arith
 
-pub held-fits : (d : Description) (r m : ℕ) {h : ℕ} → hinted d ≡ true → h ≡ heldAt d r m → 7 * r + m < length (d .«hints_by_ref») → h < 2 ^ d .«hint_bits»
-unfolding heldAt
-held-fits d r m e i l = let k = under-at (d .«hints_by_ref») (2 ^ d .«hint_bits») (7 * r + m) (hints d e .held) l in omega arith
+-- a hint that is read where the hints were lent
+pub lent-hint : (d : Description) (r : ℕ) {i h : ℕ} → i ≡ r → h ≡ getD (d .hints) i 0 → h ≡ hintAt d r
+unfolding hintAt
+lent-hint d r e q = q ∙ ap (λ (k : ℕ). getD (d .hints) k 0) e
 
--- a hint that is read from the list lent beside the description
-pub held-is : (d : Description) (r m : ℕ) {xs : List ℕ} {h : ℕ} → xs ≡ d .«hints_by_ref» → h ≡ getD xs (7 * r + m) 0 → h ≡ heldAt d r m
-unfolding heldAt
-held-is d r m e i = i ∙ ap (λ (l : List ℕ). getD l (7 * r + m) 0) e
+-- of a description whose hints were lent nothing else is asked
+pub lent-hinted : (d : Description) {xs ys : List ℕ} → xs ≡ d .hints → ys ≡ d .«hints_by_ref» → hinted d ≡ true
+    → hinted (ofHints (d .«hint_bits») (d .«current_hint») xs ys) ≡ true
+unfolding hinted
+lent-hinted d e f h = rw (e, f) h
 
 -- what acceptance tells
 passes : (s t : Bool) → _≡_ {A = ℕ} (pick s (pick t 0 2) 1) 0 → (s ≡ true) × (t ≡ true)

@@ -36,3 +36,20 @@ hintAt d r = getD (d .hints) r 0
 
 unfoldable pub heldAt : Description → ℕ → ℕ → ℕ
 heldAt d r m = getD (d .«hints_by_ref») (7 * r + m) 0
+
+-- a description of which nothing but the hints is asked
+abbrev pub ofHints : (bits current : ℕ) (hints held : List ℕ) → Description
+ofHints bits current hints held =
+    record {
+      width = 0;
+      height = 0;
+      sb128 = 0;
+      «hint_bits» = bits;
+      «current_hint» = current;
+      hints = hints;
+      «hints_by_ref» = held;
+      «tile_rows» = 0;
+      «tile_threads» = 0;
+      «frame_threads» = 0;
+      temporal = 0;
+    }

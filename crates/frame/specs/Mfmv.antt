@@ -9,6 +9,7 @@ use Rattle.ground.specs.Pick.{pick}
 use Rattle.ground.specs.Sign.{below}
 use Rattle.vector.specs.Hint.{distance}
 use Rattle.frame.specs.declared.description.Description.{Description}
+use Rattle.frame.specs.declared.select.Selection.{Selection}
 use Rattle.frame.specs.declared.mfmv.Mfmv.{Mfmv}
 use Rattle.frame.specs.declared.mfmv.Ref2Cur.{Ref2Cur}
 use Rattle.frame.specs.declared.mfmv.Ref2Cur.the-variants.{Skipped, At}
@@ -50,6 +51,10 @@ noMfmv = record { reference = 0; ref2cur = Skipped; ref2ref = [] }
 -- place i of a selection
 unfoldable pub slotOf : Description → List ℕ → ℕ → Mfmv
 slotOf d xs i = pick (ltb i (length xs)) (mfmvOf d (getD xs i 0)) idle
+
+-- the same, as the code holds a selection
+abbrev pub slotIn : Description → Selection → ℕ → Mfmv
+slotIn d s i = pick (ltb i (s .n)) (mfmvOf d (getD (s .refs) i 0)) idle
 
 abbrev pub slots : Description → List ℕ → List Mfmv
 slots d xs = slotOf d xs 0 ∷ slotOf d xs 1 ∷ slotOf d xs 2 ∷ []

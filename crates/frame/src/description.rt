@@ -75,7 +75,7 @@ fn all_fit(xs: &[u8], bits: u32) -> bool
     wide(together) < hint_limit(bits)
 }
 
-// held is d.hints_by_ref, as in `setup::init_lent`.
+// held is d.hints_by_ref, lent: one who has those bytes elsewhere has them read there.
 fn hints_fit(d: Description, held: &[u8]) -> bool
     requires { ⌜ now held ≡ d .«hints_by_ref» ⌝ }
     ensures { λ r. ⌜ r ≡ hinted d ⌝ }
@@ -93,7 +93,7 @@ fn hints_fit(d: Description, held: &[u8]) -> bool
 }
 
 // The answer of frame setup: 1, 2 or 0.
-pub(crate) fn admit(d: Description, held: &[u8], present: [u8; 7]) -> u8
+pub fn admit(d: Description, held: &[u8], present: [u8; 7]) -> u8
     requires { ⌜ now held ≡ d .«hints_by_ref» ⌝ }
     ensures { λ r. ⌜ r ≡ setupAnswer d present ⌝ }
 {

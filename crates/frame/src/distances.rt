@@ -23,7 +23,7 @@ pub struct RefHint {
     pub pocdiff: i16,
 }
 
-pub(crate) fn flag(b: bool) -> u8
+pub fn flag(b: bool) -> u8
     ensures { λ r. ⌜ r ≡ flagOf b ⌝ }
 {
     if b { 1 } else { 0 }
@@ -77,7 +77,7 @@ fn ref_hint(d: Description, i: usize) -> RefHint
     }
 }
 
-pub(crate) fn ref_hints(d: Description) -> [RefHint; 7]
+pub fn ref_hints(d: Description) -> [RefHint; 7]
     requires { ⌜ hinted d ≡ true ⌝ }
     ensures { λ r. ⌜ r ≡ refHints d ⌝ }
 {

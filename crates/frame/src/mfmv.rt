@@ -1,25 +1,22 @@
 // A reference that is projected: where it stands to the current frame, and its own references to it.
-use crate::description::Description;
 use crate::description::held_in;
-use crate::description::hint;
-use crate::distances::from_current;
+use crate::description::wide;
 use crate::distances::near;
 use crate::select::ALTREF;
 use crate::select::BWDREF;
 use crate::select::LAST2;
-use crate::select::Selection;
 use ground::sign::magnitude;
 use ground::sign::negative;
 use vector::hint::get_poc_diff;
 ghost use mathlib.Core.Path.{_≡_};
 ghost use mathlib.Core.Bool.{true};
-ghost use Prim.Native.Nat.{_<_};
-ghost use lib.Dec.{ltb};
-ghost use lib.ListN.{getD};
+ghost use Prim.Native.Nat.{_+_, _*_, _≤_, _<_, _^_};
+ghost use lib.ListN.{length, getD};
 ghost use Rattle.ground.specs.Pick.{pick};
-ghost use Rattle.frame.specs.Description.{under, hinted, hintAt};
+ghost use Rattle.vector.specs.Hint.{distance};
+ghost use Rattle.frame.specs.Description.{under, hinted, ofHints};
 ghost use Rattle.frame.specs.Distances.{seven};
-ghost use Rattle.frame.specs.Mfmv.{far, towards, offset, refToRef, mfmvOf, idle, selectable, wellCur, wellMfmv};
+ghost use Rattle.frame.specs.Mfmv.{far, towards, offset, mfmvOf, idle, selectable, wellCur, wellMfmv};
 
 // A reference more than 31 away is skipped: it counts as selected, and none of its cells lands.
 pub enum Ref2Cur {
@@ -68,35 +65,35 @@ fn offset_of(z: i16) -> u8
 }
 
 // here is the hint of reference r, held what the references' own frames held.
-fn ref2ref(d: Description, held: &[u8], here: u32, r: usize, m: usize) -> u8
-    requires { ⌜ (hinted d ≡ true) × (now held ≡ d .«hints_by_ref») × (here ≡ hintAt d r) × (r < 7) × (m < 7) ⌝ }
-    ensures { λ a. ⌜ a ≡ refToRef d r m ⌝ }
+fn ref2ref(bits: u32, held: &[u8], here: u32, r: usize, m: usize) -> u8
+    requires { ⌜ (bits ≤ 8) × (here < 2 ^ bits) × (under (now held) (2 ^ bits) ≡ true) × (length (now held) ≡ 49) × (r < 7) × (m < 7) ⌝ }
+    ensures { λ a. ⌜ a ≡ offset (distance bits here (getD (now (held .entry)) (7 * r + m) 0)) ⌝ }
 {
-    offset_of(get_poc_diff(d.hint_bits, here, held_in(held, r, m)))
+    offset_of(get_poc_diff(bits, here, held_in(held, r, m)))
 }
 
-fn refs2ref(d: Description, held: &[u8], here: u32, r: usize) -> [u8; 7]
-    requires { ⌜ (hinted d ≡ true) × (now held ≡ d .«hints_by_ref») × (here ≡ hintAt d r) × (r < 7) ⌝ }
-    ensures { λ a. ⌜ a ≡ seven (refToRef d r) ⌝ }
+fn refs2ref(bits: u32, held: &[u8], here: u32, r: usize) -> [u8; 7]
+    requires { ⌜ (bits ≤ 8) × (here < 2 ^ bits) × (under (now held) (2 ^ bits) ≡ true) × (length (now held) ≡ 49) × (r < 7) ⌝ }
+    ensures { λ a. ⌜ a ≡ seven (λ m. offset (distance bits here (getD (now (held .entry)) (7 * r + m) 0))) ⌝ }
 {
     [
-        ref2ref(d, held, here, r, 0),
-        ref2ref(d, held, here, r, 1),
-        ref2ref(d, held, here, r, 2),
-        ref2ref(d, held, here, r, 3),
-        ref2ref(d, held, here, r, 4),
-        ref2ref(d, held, here, r, 5),
-        ref2ref(d, held, here, r, 6),
+        ref2ref(bits, held, here, r, 0),
+        ref2ref(bits, held, here, r, 1),
+        ref2ref(bits, held, here, r, 2),
+        ref2ref(bits, held, here, r, 3),
+        ref2ref(bits, held, here, r, 4),
+        ref2ref(bits, held, here, r, 5),
+        ref2ref(bits, held, here, r, 6),
     ]
 }
 
-fn mfmv_of(d: Description, held: &[u8], reference: u8) -> Mfmv
-    requires { ⌜ (hinted d ≡ true) × (now held ≡ d .«hints_by_ref») × (reference < 7) ⌝ }
-    ensures { λ r. ⌜ r ≡ mfmvOf d reference ⌝ }
+fn mfmv_of(bits: u32, current: u32, hints: &[u8], held: &[u8], reference: u8) -> Mfmv
+    requires { ⌜ (hinted (ofHints bits current (now hints) (now held)) ≡ true) × (length (now hints) ≡ 7) × (length (now held) ≡ 49) × (reference < 7) ⌝ }
+    ensures { λ r. ⌜ r ≡ mfmvOf (ofHints bits current (now (hints .entry)) (now (held .entry))) reference ⌝ }
 {
     let r = place(reference);
-    let here = hint(d, r);
-    let there = from_current(d, here);
+    let here = wide(hints[r]);
+    let there = get_poc_diff(bits, here, current);
     let cur = toward_current(there, reference);
     if is_far(there) {
         return Mfmv {
@@ -108,7 +105,7 @@ fn mfmv_of(d: Description, held: &[u8], reference: u8) -> Mfmv
     Mfmv {
         reference,
         ref2cur: cur,
-        ref2ref: refs2ref(d, held, here, r),
+        ref2ref: refs2ref(bits, held, here, r),
     }
 }
 
@@ -129,15 +126,14 @@ pub(crate) fn idle_mfmv() -> Mfmv
     }
 }
 
-// Place i of a selection. held is lent beside the description that has it: an array is copied where
-// a byte of it is read, for each byte anew.
-pub(crate) fn slot(d: Description, held: &[u8], s: Selection, i: usize) -> Mfmv
-    requires { ⌜ (hinted d ≡ true) × (now held ≡ d .«hints_by_ref») × (i < 3) × (getD (s .refs) i 0 < 7) ⌝ }
-    ensures { λ r. ⌜ r ≡ pick (ltb i (s .n)) (mfmvOf d (getD (s .refs) i 0)) idle ⌝ }
+// A place of a selection. The hints are lent and not handed over with the description: an array is
+// copied where a byte of it is read, for each byte anew.
+pub fn slot(bits: u32, current: u32, hints: &[u8], held: &[u8], taken: bool, reference: u8) -> Mfmv
+    requires { ⌜ (hinted (ofHints bits current (now hints) (now held)) ≡ true) × (length (now hints) ≡ 7) × (length (now held) ≡ 49) × (reference < 7) ⌝ }
+    ensures { λ r. ⌜ r ≡ pick taken (mfmvOf (ofHints bits current (now (hints .entry)) (now (held .entry))) reference) idle ⌝ }
 {
-    if i < s.n {
-        let refs = s.refs;
-        return mfmv_of(d, held, refs[i]);
+    if taken {
+        return mfmv_of(bits, current, hints, held, reference);
     }
     idle_mfmv()
 }

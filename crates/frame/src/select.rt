@@ -111,7 +111,7 @@ fn by_count(d: Description, present: [u8; 7]) -> Selection
     s.grown(room, LAST2)
 }
 
-pub(crate) fn select(d: Description, present: [u8; 7]) -> Selection
+pub fn select(d: Description, present: [u8; 7]) -> Selection
     requires { ⌜ hinted d ≡ true ⌝ }
     ensures { λ r. ⌜ r ≡ asSelection (selected d present) ⌝ }
 {

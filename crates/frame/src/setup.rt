@@ -4,17 +4,23 @@ use crate::description::admit;
 use crate::distances::RefHint;
 use crate::distances::flag;
 use crate::distances::ref_hints;
+use crate::mfmv::Mfmv;
 use crate::mfmv::idle_mfmv;
 use crate::mfmv::slot;
 use crate::record::Frame;
+use crate::select::Selection;
 use crate::select::select;
 use crate::sizes::Sizes;
 use crate::sizes::sizes_of;
 use cells::pos::Pos4;
 use cells::pos::Pos8;
 ghost use mathlib.Core.Path.{_≡_};
-ghost use Rattle.frame.specs.Sizes.{sbszOf};
-ghost use Rattle.frame.specs.Description.{setupAnswer};
+ghost use mathlib.Core.Bool.{true};
+ghost use Prim.Native.Nat.{_<_};
+ghost use lib.ListN.{getD};
+ghost use Rattle.frame.specs.Sizes.{limits, sbszOf, sizesOf};
+ghost use Rattle.frame.specs.Description.{hinted, setupAnswer};
+ghost use Rattle.frame.specs.Mfmv.{slotIn};
 ghost use Rattle.frame.specs.Record.{frameOf, noFrame, setupOf};
 
 // The answer is 0 beside the finished record, or a refusal beside a record that no frame has.
@@ -62,25 +68,40 @@ fn no_frame() -> Frame
     }
 }
 
-fn frame_of(d: Description, held: &[u8], present: [u8; 7]) -> Frame
-    requires { ⌜ (setupAnswer d present ≡ 0) × (now held ≡ d .«hints_by_ref») ⌝ }
-    ensures { λ r. ⌜ r ≡ frameOf d present ⌝ }
+// The sizes that follow from a description.
+pub fn sizes_for(d: Description) -> Sizes
+    requires { ⌜ limits (d .width) (d .height) (d .«tile_rows») (d .«tile_threads») (d .«frame_threads») ≡ true ⌝ }
+    ensures { λ r. ⌜ r ≡ sizesOf (d .width) (d .height) (sbszOf (d .sb128)) (d .«tile_rows») (d .«tile_threads») (d .«frame_threads») ⌝ }
 {
-    let sizes = sizes_of(
+    sizes_of(
         d.width,
         d.height,
         sbsz_of(d.sb128),
         d.tile_rows,
         d.tile_threads,
         d.frame_threads,
-    );
+    )
+}
+
+// Place i of a selection.
+fn slot_of(d: Description, s: Selection, i: usize) -> Mfmv
+    requires { ⌜ (hinted d ≡ true) × (i < 3) × (getD (s .refs) i 0 < 7) ⌝ }
+    ensures { λ r. ⌜ r ≡ slotIn d s i ⌝ }
+{
+    let hints = d.hints;
+    let held = d.hints_by_ref;
+    let refs = s.refs;
+    slot(d.hint_bits, d.current_hint, &hints, &held, i < s.n, refs[i])
+}
+
+fn frame_of(d: Description, present: [u8; 7]) -> Frame
+    requires { ⌜ setupAnswer d present ≡ 0 ⌝ }
+    ensures { λ r. ⌜ r ≡ frameOf d present ⌝ }
+{
+    let sizes = sizes_for(d);
     let refs = ref_hints(d);
     let s = select(d, present);
-    let mfmvs = [
-        slot(d, held, s, 0),
-        slot(d, held, s, 1),
-        slot(d, held, s, 2),
-    ];
+    let mfmvs = [slot_of(d, s, 0), slot_of(d, s, 1), slot_of(d, s, 2)];
     Frame {
         sizes,
         use_ref_frame_mvs: flag(0 < s.n),
@@ -91,23 +112,14 @@ fn frame_of(d: Description, held: &[u8], present: [u8; 7]) -> Frame
     }
 }
 
-// As init_frame. held is d.hints_by_ref, lent: one who has those bytes elsewhere has them read there,
-// and makes no copy of them.
-pub fn init_lent(d: Description, held: &[u8], present: [u8; 7]) -> Setup
-    requires { ⌜ now held ≡ d .«hints_by_ref» ⌝ }
+pub fn init_frame(d: Description, present: [u8; 7]) -> Setup
     ensures { λ r. ⌜ r ≡ setupOf d present ⌝ }
 {
-    let answer = admit(d, held, present);
+    let answer = admit(d, &d.hints_by_ref, present);
     if answer != 0 {
         let frame = no_frame();
         return Setup { answer, frame };
     }
-    let frame = frame_of(d, held, present);
+    let frame = frame_of(d, present);
     Setup { answer, frame }
-}
-
-pub fn init_frame(d: Description, present: [u8; 7]) -> Setup
-    ensures { λ r. ⌜ r ≡ setupOf d present ⌝ }
-{
-    init_lent(d, &d.hints_by_ref, present)
 }

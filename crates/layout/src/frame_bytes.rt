@@ -2,10 +2,17 @@
 // of one, seven hints of four bytes, three selected references of ten.
 use cells::pos::Pos4;
 use cells::pos::Pos8;
+use frame::description::Description;
 use frame::distances::RefHint;
+use frame::distances::flag;
+use frame::distances::ref_hints;
 use frame::mfmv::Mfmv;
 use frame::mfmv::Ref2Cur;
+use frame::mfmv::slot;
 use frame::record::Frame;
+use frame::select::Selection;
+use frame::select::select;
+use frame::setup::sizes_for;
 use frame::sizes::Sizes;
 use ground::read::size_at;
 use ground::twos::read_half;
@@ -13,15 +20,19 @@ use ground::twos::write_half;
 use ground::write::put_bytes;
 use ground::write::put_sizes;
 ghost use mathlib.Core.Path.{_≡_};
+ghost use mathlib.Core.Bool.{true};
 ghost use mathlib.Core.List.{_∷_, []};
-ghost use Prim.Native.Nat.{_+_, _≤_, _%_};
+ghost use Prim.Native.Nat.{_+_, _≤_, _<_, _%_};
+ghost use lib.Dec.{ltb};
 ghost use lib.ListN.{length, getD};
+ghost use Rattle.ground.specs.Pick.{pick};
 ghost use Rattle.ground.specs.Put.{put};
 ghost use Rattle.ground.specs.Below.{allBelow};
 ghost use Rattle.ground.specs.Little.{fours};
-ghost use Rattle.frame.specs.Distances.{wellHint};
-ghost use Rattle.frame.specs.Mfmv.{noMfmv, wellMfmv};
-ghost use Rattle.frame.specs.Record.{noHint, wellFrame};
+ghost use Rattle.frame.specs.Description.{hinted, setupAnswer, ofHints};
+ghost use Rattle.frame.specs.Distances.{flagOf, wellHint};
+ghost use Rattle.frame.specs.Mfmv.{mfmvOf, idle, slotIn, noMfmv, wellMfmv};
+ghost use Rattle.frame.specs.Record.{frameOf, noHint, wellFrame};
 ghost use Rattle.layout.specs.FrameBytes.{sizesAt, refHintAt, refHintsAt, curOf, offsetsAt, mfmvAt, frameAt, hintBytes, hintsBytes, curNumber, mfmvBytes, mfmvsBytes, sizeNumbers, frameBytes};
 
 pub const FRAME: usize = 109;
@@ -231,13 +242,35 @@ fn put_mfmv(s: &mut [u8], at: usize, m: Mfmv)
     put_bytes(s, at + 3, &offsets);
 }
 
-fn put_mfmvs(s: &mut [u8], mfmvs: [Mfmv; 3])
-    requires { ⌜ 109 ≤ length (now s) ⌝ }
-    ensures { λ _. ⌜ now (s .exit) ≡ put (now (s .entry)) 79 (mfmvsBytes mfmvs) ⌝ }
+// A place of the selected references. What is made is written at once: where it is handed on, its
+// bytes are stored one by one and loaded in words, and the load waits for the stores.
+fn put_slot(
+    s: &mut [u8],
+    at: usize,
+    bits: u32,
+    current: u32,
+    hints: &[u8],
+    held: &[u8],
+    taken: bool,
+    reference: u8,
+)
+    requires { ⌜ (at + 10 ≤ length (now s)) × (hinted (ofHints bits current (now hints) (now held)) ≡ true) × (length (now hints) ≡ 7) × (length (now held) ≡ 49) × (reference < 7) ⌝ }
+    ensures { λ _. ⌜ now (s .exit) ≡ put (now (s .entry)) at (mfmvBytes (pick taken (mfmvOf (ofHints bits current (now (hints .entry)) (now (held .entry))) reference) idle)) ⌝ }
 {
-    put_mfmv(s, 79, mfmvs[0]);
-    put_mfmv(s, 89, mfmvs[1]);
-    put_mfmv(s, 99, mfmvs[2]);
+    put_mfmv(s, at, slot(bits, current, hints, held, taken, reference));
+}
+
+fn put_slots(s: &mut [u8], d: Description, hints: &[u8], held: &[u8], c: Selection)
+    requires { ⌜ (109 ≤ length (now s)) × (hinted d ≡ true) × (now hints ≡ d .hints) × (now held ≡ d .«hints_by_ref») × (getD (c .refs) 0 0 < 7) × (getD (c .refs) 1 0 < 7) × (getD (c .refs) 2 0 < 7) ⌝ }
+    ensures { λ _. ⌜ now (s .exit) ≡ put (now (s .entry)) 79 (mfmvsBytes (slotIn d c 0 ∷ slotIn d c 1 ∷ slotIn d c 2 ∷ [])) ⌝ }
+{
+    let bits = d.hint_bits;
+    let current = d.current_hint;
+    let n = c.n;
+    let refs = c.refs;
+    put_slot(s, 79, bits, current, hints, held, 0 < n, refs[0]);
+    put_slot(s, 89, bits, current, hints, held, 1 < n, refs[1]);
+    put_slot(s, 99, bits, current, hints, held, 2 < n, refs[2]);
 }
 
 fn put_numbers(s: &mut [u8], z: Sizes)
@@ -261,24 +294,25 @@ fn put_numbers(s: &mut [u8], z: Sizes)
     put_sizes(s, 0, &numbers);
 }
 
-fn put_flags(s: &mut [u8], f: Frame)
+// n references are selected.
+fn put_flags(s: &mut [u8], n: usize, temporal: u8)
     requires { ⌜ 109 ≤ length (now s) ⌝ }
-    ensures { λ _. ⌜ now (s .exit) ≡ put (now (s .entry)) 48 (f .«use_ref_frame_mvs» ∷ f .temporal ∷ f .«n_mfmvs» % 256 ∷ []) ⌝ }
+    ensures { λ _. ⌜ now (s .exit) ≡ put (now (s .entry)) 48 (flagOf (ltb 0 n) ∷ temporal ∷ n % 256 ∷ []) ⌝ }
 {
-    s[48] = f.use_ref_frame_mvs;
-    s[49] = f.temporal;
-    s[50] = (f.n_mfmvs % 256) as u8;
+    s[48] = flag(0 < n);
+    s[49] = temporal;
+    s[50] = (n % 256) as u8;
 }
 
-pub fn put_frame(s: &mut [u8], f: Frame)
-    requires { ⌜ 109 ≤ length (now s) ⌝ }
-    ensures { λ _. ⌜ now (s .exit) ≡ put (now (s .entry)) 0 (frameBytes f) ⌝ }
+// The record of a description that was accepted, over the start of s. hints and held are d's, lent.
+// No record is made elsewhere and copied.
+pub fn put_frame(s: &mut [u8], d: Description, hints: &[u8], held: &[u8], present: [u8; 7])
+    requires { ⌜ (109 ≤ length (now s)) × (setupAnswer d present ≡ 0) × (now hints ≡ d .hints) × (now held ≡ d .«hints_by_ref») ⌝ }
+    ensures { λ _. ⌜ now (s .exit) ≡ put (now (s .entry)) 0 (frameBytes (frameOf d present)) ⌝ }
 {
-    let sizes = f.sizes;
-    let refs = f.refs;
-    let mfmvs = f.mfmvs;
-    put_numbers(s, sizes);
-    put_flags(s, f);
-    put_hints(s, refs);
-    put_mfmvs(s, mfmvs);
+    let c = select(d, present);
+    put_numbers(s, sizes_for(d));
+    put_flags(s, c.n, d.temporal);
+    put_hints(s, ref_hints(d));
+    put_slots(s, d, hints, held, c);
 }

@@ -24,20 +24,23 @@ forty-nine-requires : tie.Need-forty-nine-requires
 forty-nine-requires c κs = let a = c .before .before .before .before .before .before .before .args in let t = enough (length (a .hints .now)) (length (a .hints-by-ref .now)) (length (a .present .now)) (length (a .frame .now)) (sym (c .before .before .init-lacks .ensures) ∙ c .before .if1 .left) in t .held
 
 slice-aggregate-set-up : tie.Need-slice-aggregate-set-up
-slice-aggregate-set-up c = let a = c .before .before .before .before .before .before .before .before .before .args in let t = enough (length (a .hints .now)) (length (a .hints-by-ref .now)) (length (a .present .now)) (length (a .frame .now)) (sym (c .before .before .before .before .init-lacks .ensures) ∙ c .before .before .before .if1 .left) in simp length-take (omega (arith, t .held))
+slice-aggregate-set-up c = let a = c .before .before .before .before .before .before .before .before .before .args in let t = enough (length (a .hints .now)) (length (a .hints-by-ref .now)) (length (a .present .now)) (length (a .frame .now)) (sym (c .before .before .before .before .init-lacks .ensures) ∙ c .before .before .before .if1 .left) in simp length-take (omega (arith, t .hints))
+
+slice-aggregate-set-up-2 : tie.Need-slice-aggregate-set-up-2
+slice-aggregate-set-up-2 c = let a = c .before .before .before .before .before .before .before .before .before .before .args in let t = enough (length (a .hints .now)) (length (a .hints-by-ref .now)) (length (a .present .now)) (length (a .frame .now)) (sym (c .before .before .before .before .before .init-lacks .ensures) ∙ c .before .before .before .before .if1 .left) in simp length-take (omega (arith, t .held))
 
 seven-requires-2 : tie.Need-seven-requires-2
-seven-requires-2 c κs = let a = c .before .before .before .before .before .before .before .before .before .args in let t = enough (length (a .hints .now)) (length (a .hints-by-ref .now)) (length (a .present .now)) (length (a .frame .now)) (sym (c .before .before .before .before .init-lacks .ensures) ∙ c .before .before .before .if1 .left) in t .present
+seven-requires-2 c κs = let a = c .before .before .before .before .before .before .before .before .before .before .args in let t = enough (length (a .hints .now)) (length (a .hints-by-ref .now)) (length (a .present .now)) (length (a .frame .now)) (sym (c .before .before .before .before .before .init-lacks .ensures) ∙ c .before .before .before .before .if1 .left) in t .present
 
 set-up-requires : tie.Need-set-up-requires
-set-up-requires c κs = let a = c .before .before .before .before .before .before .before .before .before .before .before .args in let t = enough (length (a .hints .now)) (length (a .hints-by-ref .now)) (length (a .present .now)) (length (a .frame .now)) (sym (c .before .before .before .before .before .before .init-lacks .ensures) ∙ c .before .before .before .before .before .if1 .left) in (sym (c .before .before .before .forty-nine .ensures), t .frame)
+set-up-requires c κs = let a = c .before .before .before .before .before .before .before .before .before .before .before .before .args in let t = enough (length (a .hints .now)) (length (a .hints-by-ref .now)) (length (a .present .now)) (length (a .frame .now)) (sym (c .before .before .before .before .before .before .before .init-lacks .ensures) ∙ c .before .before .before .before .before .before .if1 .left) in (sym (c .before .before .before .before .before .seven .ensures), sym (c .before .before .before .before .forty-nine .ensures), t .frame)
 
 same-length : tie.Need-same-length
 same-length c = search needs
 
 returns-2 : tie.Need-returns-2
 unfolding initAnswer initScript described
-returns-2 c = rw (← c .before .before .before .before .seven2 .ensures, ← c .before .before .before .before .before .before .forty-nine .ensures, ← c .before .before .before .before .before .before .before .seven .ensures) (answered _ _ _ _ (sym (c .before .before .before .before .before .before .before .before .before .init-lacks .ensures) ∙ c .before .before .before .before .before .before .before .before .if1 .left) (c .before .before .set-up .ensures .0) (c .before .before .set-up .ensures .1))
+returns-2 c = rw (← c .before .before .before .before .seven2 .ensures, ← c .before .before .before .before .before .before .before .forty-nine .ensures, ← c .before .before .before .before .before .before .before .before .seven .ensures) (answered _ _ _ _ (sym (c .before .before .before .before .before .before .before .before .before .before .init-lacks .ensures) ∙ c .before .before .before .before .before .before .before .before .before .if1 .left) (c .before .before .set-up .ensures .0) (c .before .before .set-up .ensures .1))
 
 pub jaskkovir-init-frame-spec : {M : Type 1} → statement M
 jaskkovir-init-frame-spec =
@@ -48,6 +51,7 @@ jaskkovir-init-frame-spec =
     seven-requires
     forty-nine-requires
     slice-aggregate-set-up
+    slice-aggregate-set-up-2
     seven-requires-2
     set-up-requires
     same-length
