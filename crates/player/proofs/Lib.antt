@@ -2,3 +2,4 @@
 pub mod Opens
 pub mod Orders
 pub mod Outcomes
+pub mod Finished
