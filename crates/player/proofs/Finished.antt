@@ -16,48 +16,22 @@ use Rattle.ground.specs.Window.{named}
 use Rattle.ground.proofs.Answers.{both-accept}
 use Rattle.ground.proofs.Picks.{pick-true}
 use Rattle.ground.proofs.Scripts.{run-length}
-use Rattle.frame.specs.declared.record.Frame.{Frame}
-use Rattle.frame.specs.Record.{wellFrame}
-use Rattle.frame.proofs.Records.{frame-sizes}
 use Rattle.rows.proofs.Tabled.{tab-at}
 use Rattle.layout.proofs.Places.{tab-length}
 use Rattle.cells.specs.declared.cell.Cell.{Cell}
 use Rattle.capture.specs.File.{bodyOf}
-use Rattle.saving.specs.Area.{wellArea, bottomOf, windowOf, stripOf}
-use Rattle.saving.proofs.Areas.{cut}
-use Rattle.loading.specs.Load.{rowsOf, stepsOf}
-use Rattle.loading.specs.Used.{usesOf}
-use Rattle.loading.proofs.Usings.{few-uses}
 use Rattle.jobs.specs.declared.job.Job.{Job}
 use Rattle.jobs.specs.declared.job.Batch.{Batch}
-use Rattle.jobs.specs.Job.{noJob, isLoad, countOf, jobAt}
+use Rattle.jobs.specs.Job.{noJob, countOf, jobAt}
 use Rattle.jobs.specs.Bytes.{jobHeld}
 use Rattle.jobs.specs.Admit.{batchAnswer}
+use Rattle.jobs.proofs.Fronts.{count-most}
 use Rattle.order.specs.Desk.{Given, Desk, handedBy, plays}
 use Rattle.order.specs.Demand.{Admitted, Finishes, Whole}
 use Rattle.order.proofs.Admission.{accepted}
 use Rattle.order.proofs.Ordered.{any-order, all-finished}
 use Rattle.player.specs.Opened.{placeIn, batchOf, batchIn, givenIn, openAnswer}
 use Rattle.player.specs.Played.{everywhere, blankProj, blankSaved, inOrder, batchPlayed, batchDesk, blankDesk, playedAnswer, playedDesk}
-
--- 16 rows that are cleared, and taken from three references; or 16 that are saved
-four-times : (n r : ℕ) → n ≤ 3 → r ≤ 16 → (1 + n) * r ≤ 64
-four-times zero r h k = omega arith
-four-times (suc zero) r h k = omega arith
-four-times (suc (suc zero)) r h k = omega arith
-four-times (suc (suc (suc zero))) r h k = omega arith
-four-times (suc (suc (suc (suc n)))) r h k = absurd (omega arith)
-
-count-most : (f : Frame) (j : Job) → wellFrame f ≡ true → wellArea (f .sizes) (j .area) ≡ true → countOf f j ≤ 64
-unfolding countOf stepsOf rowsOf windowOf stripOf
-count-most f j w a = by (isLoad j)
-  where
-    rows : bottomOf (f .sizes) (j .area) - j .area .top .0 ≤ 16
-    rows = cut (f .sizes) (j .area) (frame-sizes f w) a .few
-
-    by : (b : Bool) → pick b (stepsOf (windowOf (f .sizes) (j .area)) (usesOf f)) (stripOf (f .sizes) (j .area) .bottom - stripOf (f .sizes) (j .area) .top) ≤ 64
-    by true = four-times (usesOf f .n) (bottomOf (f .sizes) (j .area) - j .area .top .0) (few-uses f w) rows
-    by false = omega (arith, rows)
 
 -- the steps in list order name each job 64 times
 named-append : (j : ℕ) (ks ls : List ℕ) → named j (ks ++ ls) ≡ named j ks + named j ls
