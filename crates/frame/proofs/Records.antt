@@ -1,6 +1,6 @@
 -- The finished record that setup returns always passes the check.
 -- Assumes nothing.
-use mathlib.Core.Path.{_≡_, refl, sym, ap, _∙_}
+use mathlib.Core.Path.{_≡_, refl, ap, _∙_}
 use mathlib.Core.Bool.{Bool, true, false, _&&_, _||_}
 use mathlib.Core.List.{List}
 use Prim.Native.Nat.{ℕ, zero, suc, min, _*_, _<_}
@@ -15,18 +15,16 @@ use Rattle.ground.specs.Pick.{pick}
 use Rattle.ground.specs.Sign.{below, clip3}
 use Rattle.ground.proofs.Picks.{and-on, both}
 use Rattle.ground.proofs.Signs.{clip3-is, abs-signed}
-use Rattle.ground.proofs.Answers.{beside-accepted}
 use Rattle.ground.proofs.Belows.{all-of}
 use Rattle.frame.specs.declared.description.Description.{Description}
 use Rattle.frame.specs.declared.mfmv.Ref2Cur.the-variants.{Skipped, At}
 use Rattle.frame.specs.declared.record.Frame.{Frame}
-use Rattle.frame.specs.declared.setup.Setup.{Setup}
 use Rattle.frame.specs.Sizes.{limits, eighths, strideOf, sbszOf, partsOf, sizesOf, superblock, follows, wellSizes}
 use Rattle.frame.specs.Description.{under, flags, setupAnswer, hintAt}
 use Rattle.frame.specs.Distances.{flagOf, seven, fromCurrent, refHintOf, refHints, wellHint}
 use Rattle.frame.specs.Selection.{selected}
 use Rattle.frame.specs.Mfmv.{far, towards, offset, refToRef, mfmvOf, idle, noMfmv, slotOf, slots, selectable, wellCur, wellMfmv}
-use Rattle.frame.specs.Record.{frameOf, noFrame, noHint, setupOf, wellFrame}
+use Rattle.frame.specs.Record.{frameOf, noHint, wellFrame}
 use Rattle.frame.proofs.Described.{accepted-limits, accepted-flags}
 use Rattle.frame.proofs.Mfmvs.{near}
 use Rattle.frame.proofs.Selections.{selected-most, five}
@@ -154,12 +152,3 @@ setup-passes d present e =
 pub frame-sizes : (f : Frame) → wellFrame f ≡ true → wellSizes (f .sizes) ≡ true
 unfolding wellFrame
 frame-sizes f e = both _ _ (both _ _ (both _ _ (both _ _ (both _ _ e .0) .0) .0) .0) .0
-
--- what setup returned
-pub setup-answer : {r : Setup} (d : Description) (present : List ℕ) → r ≡ setupOf d present → r .answer ≡ setupAnswer d present
-unfolding setupOf
-setup-answer d present e = ap (λ (s : Setup). s .answer) e
-
-pub setup-frame : {r : Setup} (d : Description) (present : List ℕ) → r ≡ setupOf d present → setupAnswer d present ≡ 0 → r .frame ≡ frameOf d present
-unfolding setupOf
-setup-frame d present e z = ap (λ (s : Setup). s .frame) e ∙ sym (beside-accepted (setupAnswer d present) (frameOf d present) noFrame z)

@@ -1,6 +1,6 @@
 -- What an opened capture is known to have.
 -- Assumes nothing.
-use mathlib.Core.Path.{_≡_}
+use mathlib.Core.Path.{_≡_, ap, ap₂, _∙_}
 use mathlib.Core.Bool.{true, false, not}
 use mathlib.Core.List.{List}
 use Prim.Native.Nat.{ℕ, _≤_}
@@ -11,12 +11,17 @@ use borrow.Author.Tests.{not-false}
 use Rattle.ground.proofs.Answers.{refused-not}
 use Rattle.ground.proofs.Picks.{neither}
 use Rattle.frame.specs.declared.description.Description.{Description}
+use Rattle.frame.specs.declared.record.Frame.{Frame}
+use Rattle.frame.specs.Record.{frameOf}
+use Rattle.layout.specs.FrameBytes.{frameAt, frameBytes}
+use Rattle.layout.proofs.KeptFrame.{frame-back, setup-holdable}
+use Rattle.ground.specs.Put.{put}
 use Rattle.frame.specs.Description.{setupAnswer}
 use Rattle.jobs.specs.declared.job.Batch.{Batch}
 use Rattle.jobs.specs.Job.{wellBatch}
 use Rattle.capture.specs.File.{wellFile, bodyOf}
 use Rattle.capture.proofs.Files as files
-use Rattle.player.specs.Opened.{describedIn, batchIn, presentIn, beyond, unread, openAnswer}
+use Rattle.player.specs.Opened.{describedIn, batchIn, presentIn, frameIn, beyond, unread, openAnswer}
 
 -- a file that is read is well formed
 read : (file : List ℕ) → unread file ≡ false → wellFile file ≡ true
@@ -38,6 +43,13 @@ opened file z =
     let q = refused-not (not (wellBatch (batchIn file))) 11 _ (p .1) in
     let r = refused-not (beyond (describedIn file)) 0 _ (q .1) in
     record { read = p .0; batch = not-false _ (q .0); setup = r .1 }
+
+-- its record in bytes, read again
+pub made : (file l : List ℕ) → openAnswer file ≡ 0 → {d : Description} {p r : List ℕ} {f : Frame} → d ≡ describedIn file → p ≡ presentIn file → 109 ≤ length l
+    → r ≡ put l 0 (frameBytes (frameOf d p)) → f ≡ frameAt r → f ≡ frameIn file
+made file l z {d} {p} {r} {f} e g n w q =
+    let back = frame-back (frameIn file) (setup-holdable (describedIn file) (presentIn file) (opened file z .setup)) l n in
+    q ∙ ap frameAt w ∙ ap₂ (λ (d : Description) (p : List ℕ). frameAt (put l 0 (frameBytes (frameOf d p)))) e g ∙ back
 
 -- the answer by the tests that were made on the way to it
 module _ (file : List ℕ) where

@@ -4,13 +4,16 @@ use capture::file::Scan;
 use capture::file::body;
 use capture::file::scan_for;
 use frame::description::Description;
+use frame::description::admit;
 use frame::record::Frame;
-use frame::setup::init_frame;
 use jobs::bytes::job_at;
 use jobs::bytes::no_job;
 use jobs::job::Batch;
 use jobs::job::Job;
 use layout::description_bytes::description_at;
+use layout::frame_bytes::FRAME;
+use layout::frame_bytes::frame_at;
+use layout::frame_bytes::put_frame;
 ghost use mathlib.Core.Path.{_≡_};
 ghost use mathlib.Core.Bool.{false};
 ghost use Prim.Native.Nat.{_≤_};
@@ -132,13 +135,18 @@ pub fn open(file: &[u8]) -> u8
     if is_beyond(d) {
         return 1;
     }
-    init_frame(d, present_in(file)).answer
+    admit(d, &d.hints_by_ref, present_in(file))
 }
 
+// Made in bytes, as the exported setup makes it, and read again.
 pub(crate) fn frame_in(file: &[u8]) -> Frame
     requires { ⌜ openAnswer (now file) ≡ 0 ⌝ }
     ensures { λ r. ⌜ r ≡ frameIn (now (file .entry)) ⌝ }
 {
-    let setup = init_frame(described_in(file), present_in(file));
-    setup.frame
+    let d = described_in(file);
+    let hints = d.hints;
+    let held = d.hints_by_ref;
+    let mut record = [0u8; FRAME];
+    put_frame(&mut record, d, &hints, &held, present_in(file));
+    frame_at(&record)
 }

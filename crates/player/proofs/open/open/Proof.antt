@@ -3,7 +3,6 @@
 use mathlib.Core.Path.{sym, _∙_}
 use borrow.Author.Tests.{not-true, not-false}
 use Rattle.player.proofs.Opens.{answer-13, answer-12, answer-1, answer-setup}
-use Rattle.frame.proofs.Records.{setup-answer}
 use borrow.Author.Needs.{needs}
 use Rattle.player.proofs.open.open.Statement.{statement}
 use Rattle.player.proofs.open.open.Tie as tie
@@ -36,13 +35,13 @@ returns-3 c =
 present-in-requires : tie.Need-present-in-requires
 present-in-requires c κs = search needs
 
-init-frame-requires : tie.Need-init-frame-requires
-init-frame-requires c κs = search needs
+admit-requires : tie.Need-admit-requires
+admit-requires c κs = search needs
 
 returns-4 : tie.Need-returns-4
 returns-4 c =
-    setup-answer _ _ (c .init-frame .ensures)
-    ∙ answer-setup _ (sym (c .before .before .before .before .before .before .before .before .before .is-unread .ensures) ∙ c .before .before .before .before .before .before .before .before .if1 .left) (c .before .before .before .before .before .before .before .batch-in .ensures) (sym (c .before .before .before .before .before .before .well-formed .ensures) ∙ not-false _ (c .before .before .before .before .before .if2 .left)) (c .before .before .before .before .described-in .ensures) (c .before .present-in .ensures) (sym (c .before .before .before .is-beyond .ensures) ∙ c .before .before .if3 .left)
+    c .admit .ensures
+    ∙ answer-setup _ (sym (c .before .before .before .before .before .before .before .before .before .before .before .before .is-unread .ensures) ∙ c .before .before .before .before .before .before .before .before .before .before .before .if1 .left) (c .before .before .before .before .before .before .before .before .before .before .batch-in .ensures) (sym (c .before .before .before .before .before .before .before .before .before .well-formed .ensures) ∙ not-false _ (c .before .before .before .before .before .before .before .before .if2 .left)) (c .before .before .before .before .before .before .before .described-in .ensures) (c .before .present-in .ensures) (sym (c .before .before .before .before .before .before .is-beyond .ensures) ∙ c .before .before .before .before .before .if3 .left)
 
 pub open-spec : {M : Type 1} → statement M
 open-spec =
@@ -57,5 +56,5 @@ open-spec =
     is-beyond-requires
     returns-3
     present-in-requires
-    init-frame-requires
+    admit-requires
     returns-4)
