@@ -83,7 +83,7 @@ fn play_all<'a>(
 
 // Admits the batch, and plays it over the buffers, blank; a batch that is refused leaves them.
 pub fn play_batch<'a>(
-    batch: Batch,
+    b: Batch,
     f: Frame,
     present: [u8; 7],
     f0: &'a [u8],
@@ -97,49 +97,21 @@ pub fn play_batch<'a>(
     proj: &mut [u8],
     saved: &mut [u8],
 ) -> Played
-    ensures { λ r. ⌜ r .answer ≡ batchPlayed (given f present (lent (now (f0 .entry)) (now (f1 .entry)) (now (f2 .entry)) (now (f3 .entry)) (now (f4 .entry)) (now (f5 .entry)) (now (f6 .entry))) (now (recs .entry))) batch (now (proj .entry)) (now (saved .entry)) ⌝ }
+    ensures { λ r. ⌜ r .answer ≡ batchPlayed (given f present (lent (now (f0 .entry)) (now (f1 .entry)) (now (f2 .entry)) (now (f3 .entry)) (now (f4 .entry)) (now (f5 .entry)) (now (f6 .entry))) (now (recs .entry))) b (now (proj .entry)) (now (saved .entry)) ⌝ }
     ensures { λ r. ⌜ r .stride ≡ strideOf (r .answer) (given f present (lent (now (f0 .entry)) (now (f1 .entry)) (now (f2 .entry)) (now (f3 .entry)) (now (f4 .entry)) (now (f5 .entry)) (now (f6 .entry))) (now (recs .entry))) ⌝ }
-    ensures { λ r. ⌜ desk (r .batch) (now (proj .exit)) (now (saved .exit)) ≡ batchDesk (given f present (lent (now (f0 .entry)) (now (f1 .entry)) (now (f2 .entry)) (now (f3 .entry)) (now (f4 .entry)) (now (f5 .entry)) (now (f6 .entry))) (now (recs .entry))) batch (now (proj .entry)) (now (saved .entry)) ⌝ }
+    ensures { λ r. ⌜ desk (r .batch) (now (proj .exit)) (now (saved .exit)) ≡ batchDesk (given f present (lent (now (f0 .entry)) (now (f1 .entry)) (now (f2 .entry)) (now (f3 .entry)) (now (f4 .entry)) (now (f5 .entry)) (now (f6 .entry))) (now (recs .entry))) b (now (proj .entry)) (now (saved .entry)) ⌝ }
 {
-    let answer = admit(
-        f,
-        present,
-        batch,
-        f0,
-        f1,
-        f2,
-        f3,
-        f4,
-        f5,
-        f6,
-        recs,
-        proj,
-        saved,
-    );
+    let answer = admit(f, present, b, f0, f1, f2, f3, f4, f5, f6, recs, proj, saved);
     if answer != 0 {
         return Played {
             answer,
             stride: 0,
-            batch,
+            batch: b,
         };
     }
     blank_projection(proj);
     blank_saved(saved);
-    let done = play_all(
-        batch,
-        f,
-        present,
-        f0,
-        f1,
-        f2,
-        f3,
-        f4,
-        f5,
-        f6,
-        recs,
-        proj,
-        saved,
-    );
+    let done = play_all(b, f, present, f0, f1, f2, f3, f4, f5, f6, recs, proj, saved);
     Played {
         answer,
         stride: f.sizes.stride,

@@ -17,7 +17,7 @@ same-length-2 : tie.Need-same-length-2
 same-length-2 c = search needs
 
 returns : tie.Need-returns
-returns c = let a = c .before .before .before .before .before .before .before .before .before .before .before .before .before .before .args in batch-refused (given (a .f) (a .present) (lent (a .f0 .now) (a .f1 .now) (a .f2 .now) (a .f3 .now) (a .f4 .now) (a .f5 .now) (a .f6 .now)) (a .recs .now)) (a .batch) (a .proj .now) (a .saved .now) (c .before .admit .ensures) (c .if1 .taken)
+returns c = let a = c .before .before .before .before .before .before .before .before .before .before .before .before .before .before .args in batch-refused (given (a .f) (a .present) (lent (a .f0 .now) (a .f1 .now) (a .f2 .now) (a .f3 .now) (a .f4 .now) (a .f5 .now) (a .f6 .now)) (a .recs .now)) (a .b) (a .proj .now) (a .saved .now) (c .before .admit .ensures) (c .if1 .taken)
 
 blank-projection-requires : tie.Need-blank-projection-requires
 blank-projection-requires c κs = search needs
@@ -26,7 +26,7 @@ blank-saved-requires : tie.Need-blank-saved-requires
 blank-saved-requires c κs = search needs
 
 play-all-requires : tie.Need-play-all-requires
-play-all-requires c κs = let a = c .before .before .before .before .before .before .before .before .before .before .before .before .before .before .before .before .before .before .before .before .before .before .before .before .args in few (given (a .f) (a .present) (lent (a .f0 .now) (a .f1 .now) (a .f2 .now) (a .f3 .now) (a .f4 .now) (a .f5 .now) (a .f6 .now)) (a .recs .now)) (a .batch) (a .proj .now) (a .saved .now) (c .before .before .before .before .before .before .before .before .before .before .before .admit .ensures) (c .before .before .before .before .before .before .before .before .before .before .if1 .left)
+play-all-requires c κs = let a = c .before .before .before .before .before .before .before .before .before .before .before .before .before .before .before .before .before .before .before .before .before .before .before .before .args in few (given (a .f) (a .present) (lent (a .f0 .now) (a .f1 .now) (a .f2 .now) (a .f3 .now) (a .f4 .now) (a .f5 .now) (a .f6 .now)) (a .recs .now)) (a .b) (a .proj .now) (a .saved .now) (c .before .before .before .before .before .before .before .before .before .before .before .admit .ensures) (c .before .before .before .before .before .before .before .before .before .before .if1 .left)
 
 same-length-3 : tie.Need-same-length-3
 same-length-3 c = search needs
@@ -37,7 +37,7 @@ same-length-4 c = search needs
 returns-2 : tie.Need-returns-2
 returns-2 c =
     let a = c .before .before .before .before .before .before .before .before .before .before .before .before .before .before .before .before .before .before .before .before .before .before .before .before .before .before .before .before .before .args in
-    batch-played (given (a .f) (a .present) (lent (a .f0 .now) (a .f1 .now) (a .f2 .now) (a .f3 .now) (a .f4 .now) (a .f5 .now) (a .f6 .now)) (a .recs .now)) (a .batch) (a .proj .now) (a .saved .now) (c .before .before .before .before .before .before .before .before .before .before .before .before .before .before .before .before .admit .ensures) (c .before .before .before .before .before .before .before .before .before .before .before .before .before .before .before .if1 .left) (c .before .before .before .before .before .before .before .before .before .before .before .before .before .blank-projection .ensures) (c .before .before .before .before .before .before .before .before .before .blank-saved .ensures) (c .before .before .before .before .play-all .ensures)
+    batch-played (given (a .f) (a .present) (lent (a .f0 .now) (a .f1 .now) (a .f2 .now) (a .f3 .now) (a .f4 .now) (a .f5 .now) (a .f6 .now)) (a .recs .now)) (a .b) (a .proj .now) (a .saved .now) (c .before .before .before .before .before .before .before .before .before .before .before .before .before .before .before .before .admit .ensures) (c .before .before .before .before .before .before .before .before .before .before .before .before .before .before .before .if1 .left) (c .before .before .before .before .before .before .before .before .before .before .before .before .before .blank-projection .ensures) (c .before .before .before .before .before .before .before .before .before .blank-saved .ensures) (c .before .before .before .before .play-all .ensures)
 
 pub play-batch-spec : {M : Type 1} → statement M
 play-batch-spec =
