@@ -1,9 +1,9 @@
--- `jobs::bytes::job_at` meets its contract.
+-- `jobs::job_bytes::job_at` meets its contract.
 -- Assumes nothing.
 use Rattle.jobs.specs.Bytes.{jobHeld}
 use borrow.Author.Needs.{needs}
-use Rattle.jobs.proofs.bytes.job_at.Statement.{statement}
-use Rattle.jobs.proofs.bytes.job_at.Tie as tie
+use Rattle.jobs.proofs.job_bytes.job_at.Statement.{statement}
+use Rattle.jobs.proofs.job_bytes.job_at.Tie as tie
 
 add-one-at : tie.Need-add-one-at
 add-one-at c = search needs
