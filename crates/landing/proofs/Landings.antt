@@ -6,6 +6,7 @@ use mathlib.Core.List.{List, [], _∷_}
 use Prim.Native.Nat.{ℕ, _+_, _-_, _*_, _%_}
 use native.Mathlib.Omega.{arith}
 use lib.IntN.{ℤ, pos, subℕ, natAbs}
+use lib.ListN.{getD}
 use borrow.Author.Tests.{eq-eqb, ne-eqb}
 use Rattle.ground.specs.Pick.{pick}
 use Rattle.ground.specs.Put.{put}
@@ -42,6 +43,10 @@ module _ (w : Window) (m : Motion) (y x : ℕ) (c : Cell) where
       pick (b && (reaches 0 (w .top) (w .bottom) y (rowTo m c y) && reaches 8 (w .left) (w .right) x (colTo m c x)))
       (laid (spot w (natAbs (rowTo m c y)) (natAbs (colTo m c x))) (record { mv = c .mv; reference = record { 0 = pos (refOffset m c) } }) ∷ []) [])
       (and-last (not (savedAbsent c)) (ap not (eq-eqb (refOffset m c) 0 h)))
+
+-- a distance read from the lent seven is the cell's own
+pub lent-apart : (m : Motion) (c : Cell) (t : List ℕ) {d : ℕ} → t ≡ m .apart → d ≡ getD t (natAbs (c .reference .0) - 1) 0 → d ≡ refOffset m c
+lent-apart m c t p h = h ∙ ap (λ (a : List ℕ). getD a (natAbs (c .reference .0) - 1) 0) p
 
 module _ (w : Window) (y x : ℕ) (c : Cell) (p : ℕ) where
   laying : Bool → ℤ → ℤ → ℕ → List Patch

@@ -64,12 +64,11 @@ pub(crate) fn is_near(slack: usize, start: usize, end: usize, v: usize, p: usize
 
 // How far the frame that a cell's vector points to lies before the cell's own; 0: not to be
 // projected.
-pub(crate) fn apart_of(m: Motion, r: Ref) -> u8
-    requires { ⌜ fromTo (pos 1) (pos 7) (r .0) ≡ true ⌝ }
-    ensures { λ d. ⌜ d ≡ getD (m .apart) (natAbs (r .0) - 1) 0 ⌝ }
+pub(crate) fn apart_of(apart: &[u8], r: Ref) -> u8
+    requires { ⌜ (length (now apart) ≡ 7) × (fromTo (pos 1) (pos 7) (r .0) ≡ true) ⌝ }
+    ensures { λ d. ⌜ d ≡ getD (now (apart .entry)) (natAbs (r .0) - 1) 0 ⌝ }
 {
-    let t = m.apart;
-    t[place_of(r)]
+    apart[place_of(r)]
 }
 
 pub(crate) fn shifts(c: Cell, m: Motion, den: u8) -> Shift

@@ -85,19 +85,22 @@ fn take_run(
     e
 }
 
-// What stands at column x: absent, not to be projected, or a run. Returns the next column.
+// What stands at column x: absent, not to be projected, or a run. Returns the next column. The
+// distances of m are lent beside it, so that no cell copies them.
 fn follow(
     src: &[u8],
     first: usize,
     proj: &mut [u8],
     w: Window,
     m: Motion,
+    apart: &[u8],
     y: usize,
     x: usize,
     end: usize,
 ) -> usize
     requires { ⌜ Going (length (now src)) first (length (now proj)) w m y x end ⌝ }
     requires { ⌜ wellSaved (sourceAt (now src) first x) ≡ true ⌝ }
+    requires { ⌜ (now apart ≡ m .apart) × (length (now apart) ≡ 7) ⌝ }
     ensures { λ r. ⌜ (x < r) × (r ≤ end) ⌝ }
     ensures { λ r. ⌜ now (proj .exit) ≡ run (span (lane (sourceAt (now (src .entry)) first) w m y) x r) (now (proj .entry)) ⌝ }
 {
@@ -105,7 +108,7 @@ fn follow(
     if c.saved_absent() {
         return x + 1;
     }
-    let den = apart_of(m, c.reference);
+    let den = apart_of(apart, c.reference);
     if den == 0 {
         return x + 1;
     }
@@ -121,8 +124,9 @@ pub fn load_row(src: &[u8], proj: &mut [u8], w: Window, m: Motion, y: usize)
 {
     let first = y * w.stride;
     let end = source_end(w);
+    let apart = m.apart;
     let mut x = source_start(w);
     while x < end {
-        x = follow(src, first, proj, w, m, y, x, end);
+        x = follow(src, first, proj, w, m, &apart, y, x, end);
     }
 }

@@ -10,11 +10,11 @@ use Rattle.landing.proofs.land.apart_of.Tie as tie
 place-of-requires : tie.Need-place-of-requires
 place-of-requires c κs = search needs
 
-array-read-result : tie.Need-array-read-result
-array-read-result c = search needs
+shared-slice-read-result : tie.Need-shared-slice-read-result
+shared-slice-read-result c = search needs
 
 returns : tie.Need-returns
-returns c = ap (λ (i : ℕ). getD (c .before .before .args .m .apart) i 0) (c .place-of .ensures .0)
+returns c = ap (λ (i : ℕ). getD (c .before .before .before .args .apart .now) i 0) (c .before .place-of .ensures .0)
 
 pub apart-of-spec : {M : Type 1} → statement M
-apart-of-spec = tie.close (tie.spec place-of-requires array-read-result returns)
+apart-of-spec = tie.close (tie.spec place-of-requires shared-slice-read-result returns)

@@ -13,10 +13,10 @@ use Rattle.landing.proofs.run.load_row.Statement.{statement}
 use Rattle.landing.proofs.run.load_row.Tie as tie
 
 abbrev Inv-loop : tie.InvT-loop
-Inv-loop src proj₀ w m y first end x₀ proj x = (firstSource w ≤ x) × (x ≤ firstSource w + (end - firstSource w)) × (length proj ≡ length proj₀) × (proj ≡ run (span (lane (sourceAt src first) w m y) (firstSource w) x) proj₀)
+Inv-loop src proj₀ w m y first end apart x₀ proj x = (firstSource w ≤ x) × (x ≤ firstSource w + (end - firstSource w)) × (length proj ≡ length proj₀) × (proj ≡ run (span (lane (sourceAt src first) w m y) (firstSource w) x) proj₀)
 
 abbrev μ-loop : tie.MeasureT-loop
-μ-loop src proj₀ w m y first end x₀ proj x = end - x
+μ-loop src proj₀ w m y first end apart x₀ proj x = end - x
 
 mul-first : tie.Need-mul-first Inv-loop μ-loop
 mul-first c = let b = c .before .before .before .pre .0 in omega (arith, b .source)
@@ -32,14 +32,17 @@ loop-holds c =
     let e = c .source-start .ensures in
     (omega arith, omega arith, refl, stop _ _ _ _ (omega arith) _ (start _ _ _))
 
+slice-aggregate-follow : tie.Need-slice-aggregate-follow Inv-loop μ-loop
+slice-aggregate-follow c = search needs
+
 follow-requires : tie.Need-follow-requires Inv-loop μ-loop
 follow-requires c κs =
-    let s = c .before .before .before .before .before .before .before .before in
+    let s = c .before .before .before .before .before .before .before .before .before .before in
     let o = s .pre .0 in
-    let e = c .before .before .before .before .source-end .ensures in
-    let i = c .before .before .loop .inv in (
+    let e = c .before .before .before .before .before .before .source-end .ensures in
+    let i = c .before .before .before .loop .inv in (
       record {
-        more = c .before .loop-test .taken;
+        more = c .before .before .loop-test .taken;
         upto = omega (arith, o .bounded);
         source = o .source;
         bounded = o .bounded;
@@ -48,7 +51,7 @@ follow-requires c κs =
         target = omega arith;
         numbers = s .pre .1 .0;
       },
-      s .pre .1 .1 _ (i .0) (omega arith),
+      (s .pre .1 .1 _ (i .0) (omega arith), (refl, search needs)),
     )
 
 loop-less : tie.Need-loop-less Inv-loop μ-loop
@@ -56,7 +59,7 @@ loop-less c = search needs
 
 loop-again : tie.Need-loop-again Inv-loop μ-loop
 loop-again c =
-    let l = c .before .before .before .before .before .loop in
+    let l = c .before .before .before .before .before .before .loop in
     let f = c .before .before .follow in
     (omega arith, omega arith, f .kept .1 .1 .0 ∙ l .inv .2, on _ _ _ _ (l .inv .0) (omega arith) _ (l .inv .3) (f .ensures .1))
 
@@ -66,7 +69,7 @@ same-length c = search needs
 returns : tie.Need-returns Inv-loop μ-loop
 unfolding rowScript
 returns c =
-    let e = c .before .before .before .source-end .ensures in
+    let e = c .before .before .before .before .source-end .ensures in
     stop _ _ _ _ (omega arith) _ (c .before .loop .inv .3)
 
 pub load-row-spec : {M : Type 1} → statement M
@@ -79,6 +82,7 @@ load-row-spec =
     source-end-requires
     source-start-requires
     loop-holds
+    slice-aggregate-follow
     follow-requires
     loop-less
     loop-again
