@@ -8,7 +8,7 @@ use native.Mathlib.Omega.{arith}
 use lib.Dec.{ltb, leb}
 use lib.IntN.{ℤ, pos, negsuc, negℤ, natAbs, _*ℤ_}
 use lib.Signed.{ltZ, leZ}
-use borrow.Author.Tests.{le-ltb, lt-ltb, leb-true}
+use borrow.Author.Tests.{le-ltb, lt-ltb, le-leb, leb-true}
 use Rattle.ground.specs.Pick.{pick}
 use Rattle.ground.specs.Sign.{signed, below, onMag, fromTo, clip3}
 use Rattle.ground.proofs.Picks.{pick-true, pick-false, and-on, and-off}
@@ -58,7 +58,6 @@ product a b k =
     ∙ ap (λ (x : ℤ). signed (below a) (natAbs a) *ℤ x) (times-pos (below b) (natAbs b) k)
     ∙ times (below a) (below b) (natAbs a) (natAbs b * k)
 
--- a number held to -m .. m keeps its sign, and its magnitude is held to m
 no-below : (m n : ℕ) → ltZ (pos n) (negℤ (pos m)) ≡ false
 no-below zero n = le-ltb n 0 zero-le
 no-below (suc m) n = refl
@@ -67,15 +66,44 @@ pick-min : (f : ℕ → ℤ) (m n : ℕ) → Which m n → pick (ltb m n) (f m) 
 pick-min f m n (less h) = let e : m ≡ min n m = omega arith in pick-true (f n) (lt-ltb m n h) ∙ ap f e
 pick-min f m n (more h) = let e : n ≡ min n m = omega arith in pick-false (f m) (le-ltb m n h) ∙ ap f e
 
-pub clip3-is : (m : ℕ) (z : ℤ) → clip3 (negℤ (pos m)) (pos m) z ≡ onMag (λ n. min n m) z
+-- a number held to -a .. b keeps its sign, and its magnitude is held to the bound of its side
+pub clip3-sides : (a b : ℕ) (z : ℤ) → clip3 (negℤ (pos a)) (pos b) z ≡ signed (below z) (min (natAbs z) (pick (below z) a b))
 unfolding clip3
-clip3-is m (pos n) =
-    pick-false (negℤ (pos m)) (no-below m n) ∙ pick-min pos m n (which m n)
-    ∙ ap (λ (b : Bool). signed b (min n m)) (sym (le-ltb n 0 zero-le))
-clip3-is zero (negsuc n) = let e : 0 ≡ min (suc n) 0 = omega arith in ap (λ (k : ℕ). negℤ (pos k)) e
-clip3-is (suc m) (negsuc n) =
-    let e : suc (min n m) ≡ min (suc n) (suc m) = omega arith in
-    pick-min negsuc m n (which m n) ∙ ap (λ (k : ℕ). negℤ (pos k)) e
+clip3-sides a b (pos n) =
+    pick-false (negℤ (pos a)) (no-below a n) ∙ pick-min pos b n (which b n)
+    ∙ ap (λ (t : Bool). signed t (min n (pick t a b))) (sym (le-ltb n 0 zero-le))
+clip3-sides zero b (negsuc n) = let e : 0 ≡ min (suc n) 0 = omega arith in ap (λ (k : ℕ). negℤ (pos k)) e
+clip3-sides (suc a) b (negsuc n) =
+    let e : suc (min n a) ≡ min (suc n) (suc a) = omega arith in
+    pick-min negsuc a n (which a n) ∙ ap (λ (k : ℕ). negℤ (pos k)) e
+
+-- the same with one bound for both sides
+pub clip3-is : (m : ℕ) (z : ℤ) → clip3 (negℤ (pos m)) (pos m) z ≡ onMag (λ n. min n m) z
+clip3-is m z = clip3-sides m m z ∙ ap (λ (k : ℕ). signed (below z) (min (natAbs z) k)) (either (below z))
+  where
+    either : (t : Bool) → pick t m m ≡ m
+    either true = refl
+    either false = refl
+
+-- and what is held to -a .. b lies there
+lies-low : (a b m : ℕ) → m ≤ a → fromTo (negℤ (pos a)) (pos b) (negℤ (pos m)) ≡ true
+unfolding fromTo
+lies-low zero b zero h = le-leb 0 b zero-le
+lies-low (suc a) b zero h = le-leb 0 b zero-le
+lies-low zero b (suc m) h = absurd (omega arith)
+lies-low (suc a) b (suc m) h = and-on (le-leb m a (omega arith))
+
+lies-high : (a b m : ℕ) → m ≤ b → fromTo (negℤ (pos a)) (pos b) (pos m) ≡ true
+unfolding fromTo
+lies-high zero b m h = and-on (le-leb 0 m zero-le) ∙ le-leb m b h
+lies-high (suc a) b m h = le-leb m b h
+
+pub clip3-lies : (a b : ℕ) (z : ℤ) → fromTo (negℤ (pos a)) (pos b) (clip3 (negℤ (pos a)) (pos b) z) ≡ true
+clip3-lies a b z = ap (fromTo (negℤ (pos a)) (pos b)) (clip3-sides a b z) ∙ by (below z) (natAbs z)
+  where
+    by : (s : Bool) (n : ℕ) → fromTo (negℤ (pos a)) (pos b) (signed s (min n (pick s a b))) ≡ true
+    by true n = lies-low a b (min n a) (omega arith)
+    by false n = lies-high a b (min n b) (omega arith)
 
 -- What code puts together from the answers of `negative`, `magnitude` and `with_sign`. The number u is what the local read back, c what the contract speaks of.
 pub rebuilt : (f : ℕ → ℕ) {s : Bool} {m a : ℕ} {r u c : ℤ} → r ≡ signed s m → s ≡ below u → m ≡ f a → a ≡ natAbs u → u ≡ c → r ≡ onMag f c
