@@ -1,0 +1,83 @@
+-- What is known of a neighbour that was read, and of the number of a refusal.
+-- Assumes nothing.
+use mathlib.Core.Path.{_≡_, refl, sym, _∙_, subst}
+use mathlib.Core.Bool.{Bool, true, false, not}
+use mathlib.Core.List.{List}
+use mathlib.Core.Logic.{_⊎_, inl, inr}
+use Prim.Native.Nat.{ℕ, _+_, _≤_}
+use native.Mathlib.Omega.{arith}
+use lib.Dec.{ltb}
+use Rattle.ground.specs.Pick.{pick}
+use Rattle.cells.specs.declared.block.Block.{Block}
+use Rattle.cells.specs.declared.size.Sized.{Sized}
+use Rattle.cells.specs.declared.size.Sized.the-variants as sized-as
+use Rattle.cells.specs.Block.{blockAt, wellBlock}
+use Rattle.cells.specs.Size.{sizeOf}
+use Rattle.cells.proofs.Sizes.{Narrow, narrow}
+use Rattle.rows.specs.declared.table.Place.{Place}
+use Rattle.rows.specs.declared.table.Place.the-variants.{Absent, At}
+use Rattle.rows.specs.declared.table.RowEntry.{RowEntry}
+use Rattle.rows.specs.Table.{placeAt}
+use Rattle.neighbours.specs.declared.read.Neighbour.{Neighbour}
+use Rattle.neighbours.specs.declared.read.Line.{Line}
+use Rattle.neighbours.specs.declared.read.Read.{Read}
+use Rattle.neighbours.specs.declared.read.Read.the-variants.{Of, Refused}
+use Rattle.neighbours.specs.Neighbour.{sized, judged, recordAt, inRow, readAt, entryOf, colOf, lineAt}
+
+-- a well formed record, with the dimensions of its size, 1 to 32 units each
+pub record Known (k : Neighbour) : Type 0 where
+  pub well : wellBlock (k .block) ≡ true
+  pub size : sizeOf (k .block .bs) ≡ sized-as.Of (k .dims)
+  pub sides : Narrow (k .dims)
+
+-- document 01's refusals of a read
+abbrev pub Listed : ℕ → Type 0
+Listed n = (n ≡ 4) ⊎ ((n ≡ 6) ⊎ (n ≡ 8))
+
+abbrev pub Told : Read → Type 0
+Told (Of k) = Known k
+Told (Refused n) = Listed n
+
+told-sized : (k : Block) (s : Sized) → wellBlock k ≡ true → sizeOf (k .bs) ≡ s → Told (sized k s)
+told-sized k sized-as.Refused w e = inr (inr refl)
+told-sized k (sized-as.Of d) w e = record { well = w; size = e; sides = narrow (k .bs) d e }
+
+told-judged : (k : Block) → Told (judged k)
+unfolding judged
+told-judged k = cases (wellBlock k) refl
+  where
+    cases : (b : Bool) → wellBlock k ≡ b → Told (pick (not b) (Refused 8) (sized k (sizeOf (k .bs))))
+    cases true e = told-sized k (sizeOf (k .bs)) e refl
+    cases false e = inr (inr refl)
+
+told-record : (recs : List ℕ) (total o col : ℕ) → Told (recordAt recs total o col)
+unfolding recordAt
+told-record recs total o col = cases (ltb (o + col) total)
+  where
+    cases : (b : Bool) → Told (pick b (judged (blockAt recs (o + col))) (Refused 4))
+    cases true = told-judged (blockAt recs (o + col))
+    cases false = inl refl
+
+told-place : (recs : List ℕ) (total col : ℕ) (p : Place) → Told (inRow recs total col p)
+told-place recs total col Absent = inr (inl refl)
+told-place recs total col (At o) = told-record recs total o col
+
+pub told : (rows : List RowEntry) (recs : List ℕ) (total e col : ℕ) → Told (readAt rows recs total e col)
+unfolding readAt
+told rows recs total e col = told-place recs total col (placeAt rows e)
+
+pub told-line : (rows : List RowEntry) (recs : List ℕ) (total : ℕ) (l : Line) (i : ℕ) → Told (lineAt (readAt rows recs total) l i)
+unfolding lineAt
+told-line rows recs total l i = told rows recs total (entryOf l i) (colOf l i)
+
+-- the same where the answer r is matched
+pub is-known : {a r : Read} {k : Neighbour} → Told a → r ≡ a → r ≡ Of k → Known k
+is-known t e o = subst Told (sym e ∙ o) t
+
+pub is-some : {a r : Read} {n : ℕ} → Told a → r ≡ a → r ≡ Refused n → 1 ≤ n
+is-some {n = n} t e o = some (subst Told (sym e ∙ o) t)
+  where
+    some : Listed n → 1 ≤ n
+    some (inl h) = omega arith
+    some (inr (inl h)) = omega arith
+    some (inr (inr h)) = omega arith

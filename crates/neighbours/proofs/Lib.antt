@@ -1,0 +1,2 @@
+-- The laws of neighbours that callers cite.
+pub mod Known

@@ -1,0 +1,56 @@
+-- A neighbour, read: document 01's refusals 6, 4 and 8, in that order.
+use Prim.Native.Nat.{ℕ, _+_}
+use mathlib.Core.Bool.{Bool, not}
+use mathlib.Core.List.{List}
+use lib.Dec.{ltb}
+use Rattle.ground.specs.Pick.{pick}
+use Rattle.cells.specs.declared.block.Block.{Block}
+use Rattle.cells.specs.declared.size.Sized.{Sized}
+use Rattle.cells.specs.declared.size.Sized.the-variants as sized-as
+use Rattle.cells.specs.Block.{blockAt, wellBlock}
+use Rattle.cells.specs.Size.{sizeOf}
+use Rattle.rows.specs.declared.table.Place.{Place}
+use Rattle.rows.specs.declared.table.Place.the-variants.{Absent, At}
+use Rattle.rows.specs.declared.table.RowEntry.{RowEntry}
+use Rattle.rows.specs.Table.{placeAt}
+use Rattle.neighbours.specs.declared.read.Neighbour.{Neighbour}
+use Rattle.neighbours.specs.declared.read.Line.{Line}
+use Rattle.neighbours.specs.declared.read.Read.{Read}
+use Rattle.neighbours.specs.declared.read.Read.the-variants.{Of, Refused}
+
+-- a record with the dimensions of its size code
+abbrev pub sized : Block → Sized → Read
+sized k (sized-as.Of d) = Of (record { block = k; dims = d })
+sized k sized-as.Refused = Refused 8
+
+unfoldable pub judged : Block → Read
+judged k = pick (not (wellBlock k)) (Refused 8) (sized k (sizeOf (k .bs)))
+
+-- column col of a row that starts at record o; there are `total` listed records
+unfoldable pub recordAt : List ℕ → ℕ → ℕ → ℕ → Read
+recordAt recs total o col = pick (ltb (o + col) total) (judged (blockAt recs (o + col))) (Refused 4)
+
+abbrev pub inRow : List ℕ → ℕ → ℕ → Place → Read
+inRow recs total col Absent = Refused 6
+inRow recs total col (At o) = recordAt recs total o col
+
+-- the record of an entry's row and a column
+unfoldable pub readAt : List RowEntry → List ℕ → ℕ → ℕ → ℕ → Read
+readAt rows recs total e col = inRow recs total col (placeAt rows e)
+
+-- Along a row and down a column are one: `down` says which. A neighbour's size along the line, and across.
+unfoldable pub alongOf : Bool → Neighbour → ℕ
+alongOf down k = pick down (k .dims .h .0) (k .dims .w .0)
+
+unfoldable pub acrossOf : Bool → Neighbour → ℕ
+acrossOf down k = pick down (k .dims .w .0) (k .dims .h .0)
+
+abbrev pub entryOf : Line → ℕ → ℕ
+entryOf l i = pick (l .down) (l .entry + i) (l .entry)
+
+abbrev pub colOf : Line → ℕ → ℕ
+colOf l i = pick (l .down) (l .col) (l .col + i)
+
+-- the neighbours of a line, by their place along it, out of those by entry and column
+unfoldable pub lineAt : (ℕ → ℕ → Read) → Line → ℕ → Read
+lineAt read l i = read (entryOf l i) (colOf l i)
