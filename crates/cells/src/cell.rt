@@ -4,7 +4,9 @@ use ground::twos::byte_bits;
 use ground::twos::signed_byte;
 use vector::mv::Mv;
 ghost use mathlib.Core.Path.{_≡_};
-ghost use Prim.Native.Nat.{_+_, _*_, _≤_};
+ghost use mathlib.Core.Bool.{true};
+ghost use Prim.Native.Nat.{_+_, _-_, _*_, _≤_};
+ghost use lib.IntN.{pos, natAbs};
 ghost use lib.ListN.{length};
 ghost use Rattle.ground.specs.Put.{put};
 ghost use Rattle.ground.specs.Sign.{eqZ, fromTo};
@@ -28,6 +30,14 @@ impl Ref {
         ensures { λ r. ⌜ r ≡ fromTo lo hi (self .0) ⌝ }
     {
         if lo <= self.0 { self.0 <= hi } else { false }
+    }
+
+    // The place of a reference, 1..7, in a table of seven.
+    pub fn place(self) -> usize
+        requires { ⌜ fromTo (pos 1) (pos 7) (self .0) ≡ true ⌝ }
+        ensures { λ i. ⌜ (i ≡ natAbs (self .0) - 1) × (i ≤ 6) ⌝ }
+    {
+        byte_bits(self.0) as usize - 1
     }
 }
 

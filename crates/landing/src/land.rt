@@ -5,7 +5,6 @@ use cells::cell::Ref;
 use ground::sign::magnitude;
 use ground::sign::negative;
 use saving::area::Window;
-use saving::choose::place_of;
 use vector::projection::mv_projection;
 ghost use mathlib.Core.Path.{_≡_};
 ghost use mathlib.Core.Bool.{true};
@@ -68,7 +67,7 @@ pub(crate) fn apart_of(apart: &[u8], r: Ref) -> u8
     requires { ⌜ (length (now apart) ≡ 7) × (fromTo (pos 1) (pos 7) (r .0) ≡ true) ⌝ }
     ensures { λ d. ⌜ d ≡ getD (now (apart .entry)) (natAbs (r .0) - 1) 0 ⌝ }
 {
-    apart[place_of(r)]
+    apart[r.place()]
 }
 
 pub(crate) fn shifts(c: Cell, m: Motion, den: u8) -> Shift

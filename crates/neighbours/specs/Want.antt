@@ -3,11 +3,11 @@
 use Prim.Native.Nat.{ℕ, _%_}
 use mathlib.Core.Bool.{Bool, not}
 use lib.Dec.{eqb}
-use lib.IntN.{pos, negsuc}
+use lib.IntN.{negsuc}
 use Rattle.ground.specs.Pick.{pick}
 use Rattle.ground.specs.Sign.{eqZ}
 use Rattle.vector.specs.declared.mv.Mv.{Mv}
-use Rattle.vector.specs.Vector.{invalid, eqMv}
+use Rattle.vector.specs.Vector.{zero, invalid, eqMv}
 use Rattle.cells.specs.declared.cell.Ref.{Ref}
 use Rattle.cells.specs.declared.block.Block.{Block}
 use Rattle.cells.specs.declared.block.MvPair.{MvPair}
@@ -23,11 +23,8 @@ lentOf global g own = pick global (pick (eqMv g invalid) own g) own
 abbrev pub globalMode : Block → Bool
 globalMode k = eqb (k .mf % 2) 1
 
-abbrev pub zeroMv : Mv
-zeroMv = record { y = pos 0; x = pos 0 }
-
 abbrev pub alone : Mv → MvPair
-alone v = record { first = v; second = zeroMv }
+alone v = record { first = v; second = zero }
 
 -- A single search: the first list whose reference is the wanted one.
 unfoldable pub singleOf : Block → Bool → Ref → Mv → Offer

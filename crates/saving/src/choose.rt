@@ -5,7 +5,6 @@ use cells::cell::Ref;
 use cells::size::Sized;
 use cells::size::dimensions;
 use frame::distances::RefHint;
-use ground::twos::byte_bits;
 use vector::mv::Mv;
 ghost use mathlib.Core.Path.{_≡_};
 ghost use mathlib.Core.Bool.{true};
@@ -15,20 +14,12 @@ ghost use Rattle.ground.specs.Sign.{fromTo};
 ghost use Rattle.saving.specs.Save.{cellsWide};
 ghost use Rattle.saving.specs.Walk.{hintPlace, usableBy, chosenBy};
 
-// The place of a reference, 1..7, in a table of seven.
-pub fn place_of(r: Ref) -> usize
-    requires { ⌜ fromTo (pos 1) (pos 7) (r .0) ≡ true ⌝ }
-    ensures { λ i. ⌜ (i ≡ natAbs (r .0) - 1) × (i ≤ 6) ⌝ }
-{
-    byte_bits(r.0) as usize - 1
-}
-
 // Where a reference's hint stands among the seven; for one that has none any place will do.
 pub(crate) fn hint_place(r: Ref) -> usize
     ensures { λ i. ⌜ (i ≡ hintPlace (r .0)) × (i ≤ 6) ⌝ }
 {
     if r.from_to(1, 7) {
-        return place_of(r);
+        return r.place();
     }
     0
 }

@@ -3,11 +3,9 @@ use Prim.Native.Nat.{ℕ, suc, _+_}
 use mathlib.Core.Bool.{Bool, false, _&&_}
 use mathlib.Core.List.{List, [], _∷_, _++_, map}
 use lib.Dec.{ltb}
-use lib.IntN.{pos}
 use lib.ListN.{length, getD, set, take}
 use Rattle.ground.specs.Pick.{pick}
-use Rattle.vector.specs.declared.mv.Mv.{Mv}
-use Rattle.vector.specs.Vector.{eqMv}
+use Rattle.vector.specs.Vector.{zero, eqMv}
 use Rattle.cells.specs.declared.block.MvPair.{MvPair}
 use Rattle.stack.specs.declared.candidate.Candidate.{Candidate}
 use Rattle.stack.specs.declared.candidate.Found.{Found}
@@ -38,12 +36,9 @@ withCands s l = record { cands = l; newmv = s .newmv; above = s .above; left = s
 unfoldable pub eqPair : MvPair → MvPair → Bool
 eqPair p q = eqMv (p .first) (q .first) && eqMv (p .second) (q .second)
 
-abbrev pub zeroMv : Mv
-zeroMv = record { y = pos 0; x = pos 0 }
-
 -- what a read past the list would give
 abbrev pub nobody : Candidate
-nobody = record { mv = record { first = zeroMv; second = zeroMv }; weight = 0 }
+nobody = record { mv = record { first = zero; second = zero }; weight = 0 }
 
 -- where a pair stands in the list; the list's length where it doesn't
 unfoldable pub findIn : List Candidate → MvPair → ℕ

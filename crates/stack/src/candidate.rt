@@ -21,6 +21,12 @@ pub struct Found {
     pub left: bool,
 }
 
+// What a part of a search found; answer is 0, or a refusal, and then nothing is meant by found.
+pub struct Answered {
+    pub found: Found,
+    pub answer: u8,
+}
+
 pub fn same(p: MvPair, q: MvPair) -> bool
     ensures { λ r. ⌜ r ≡ eqPair p q ⌝ }
 {

@@ -3,10 +3,13 @@ use Prim.Native.Nat.{ℕ, _+_, _≤_}
 use mathlib.Core.Bool.{Bool, _&&_}
 use mathlib.Core.List.{List, _++_}
 use lib.Dec.{leb}
-use lib.IntN.{ℤ, negsuc, natAbs}
+use lib.IntN.{ℤ, pos, negsuc, natAbs}
 use Rattle.ground.specs.Sign.{eqZ}
 use Rattle.ground.specs.Twos.{halfAt, halfOf}
 use Rattle.vector.specs.declared.mv.Mv.{Mv}
+
+abbrev pub zero : Mv
+zero = record { y = pos 0; x = pos 0 }
 
 -- both components -32,768: `negsuc n` is -1 - n
 abbrev pub invalid : Mv

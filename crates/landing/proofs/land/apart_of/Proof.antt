@@ -7,14 +7,14 @@ use borrow.Author.Needs.{needs}
 use Rattle.landing.proofs.land.apart_of.Statement.{statement}
 use Rattle.landing.proofs.land.apart_of.Tie as tie
 
-place-of-requires : tie.Need-place-of-requires
-place-of-requires c κs = search needs
+place-requires : tie.Need-place-requires
+place-requires c κs = search needs
 
 shared-slice-read-result : tie.Need-shared-slice-read-result
 shared-slice-read-result c = search needs
 
 returns : tie.Need-returns
-returns c = ap (λ (i : ℕ). getD (c .before .before .before .args .apart .now) i 0) (c .before .place-of .ensures .0)
+returns c = ap (λ (i : ℕ). getD (c .before .before .before .args .apart .now) i 0) (c .before .place .ensures .0)
 
 pub apart-of-spec : {M : Type 1} → statement M
-apart-of-spec = tie.close (tie.spec place-of-requires shared-slice-read-result returns)
+apart-of-spec = tie.close (tie.spec place-requires shared-slice-read-result returns)

@@ -1,4 +1,4 @@
--- `saving::choose::place_of` meets its contract.
+-- `cells::cell::Ref::place` meets its contract.
 -- Assumes nothing.
 use mathlib.Core.Path.{_≡_, sym, ap, _∙_}
 use native.Mathlib.Omega.{arith}
@@ -11,8 +11,8 @@ use Rattle.ground.specs.Twos.{bits8, twos8}
 use Rattle.ground.proofs.Signs.{from-is, from-to-most}
 use Rattle.ground.proofs.Bits.{same}
 use borrow.Author.Needs.{needs}
-use Rattle.saving.proofs.choose.place_of.Statement.{statement}
-use Rattle.saving.proofs.choose.place_of.Tie as tie
+use Rattle.cells.proofs.cell.Ref.place.Statement.{statement}
+use Rattle.cells.proofs.cell.Ref.place.Tie as tie
 
 -- a reference of 1..7 stands in its byte as itself
 counted : (n : ℕ) (z : ℤ) → n ≡ bits8 (twos8 (bits8 z)) → fromTo (pos 1) (pos 7) z ≡ true → (n ≡ natAbs z) × (1 ≤ natAbs z) × (natAbs z ≤ 7)
@@ -36,5 +36,5 @@ sub-result c = let p = counted _ _ (c .byte-bits .ensures) (c .before .before .p
 returns : tie.Need-returns
 returns c = let p = counted _ _ (c .byte-bits .ensures) (c .before .before .pre) in (omega arith, omega arith)
 
-pub place-of-spec : {M : Type 1} → statement M
-place-of-spec = tie.close (tie.spec byte-bits-requires cast-result sub-result returns)
+pub place-spec : {M : Type 1} → statement M
+place-spec = tie.close (tie.spec byte-bits-requires cast-result sub-result returns)
