@@ -1,6 +1,6 @@
 -- What a neighbour gives to a search: the add reference motion vector process (7.10.2.7) with the search stack (7.10.2.8) and compound search stack (7.10.2.9)
 -- processes.
-use Prim.Native.Nat.{ℕ, _%_}
+use Prim.Native.Nat.{_%_}
 use mathlib.Core.Bool.{Bool, not}
 use lib.Dec.{eqb}
 use lib.IntN.{negsuc}

@@ -10,7 +10,7 @@ ghost use mathlib.Core.Path.{_≡_};
 ghost use Prim.Native.Nat.{_+_, _*_, _≤_, _<_, _^_};
 ghost use lib.ListN.{length};
 ghost use Rattle.layout.specs.TileBytes.{tileAt};
-ghost use Rattle.neighbours.specs.Neighbour.{judged, sized, recordAt, readAt, alongOf, acrossOf, entryOf, colOf, lineAt};
+ghost use Rattle.neighbours.specs.Neighbour.{judged, recordAt, readAt, alongOf, acrossOf, entryOf, colOf, lineAt};
 
 pub struct Neighbour {
     pub block: Block,
