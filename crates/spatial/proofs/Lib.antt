@@ -1,0 +1,3 @@
+-- The laws of scans.
+pub mod Notes
+pub mod Scans
