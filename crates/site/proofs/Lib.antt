@@ -1,0 +1,2 @@
+-- The laws of a block's place.
+pub mod Sides
