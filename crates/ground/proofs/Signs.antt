@@ -2,17 +2,17 @@
 -- Assumes nothing.
 use mathlib.Core.Path.{_≡_, refl, sym, ap, ap₂, _∙_}
 use mathlib.Core.Bool.{Bool, true, false, not, Bool·beq, true≢false, and-eq-true-iff}
-use Prim.Native.Nat.{ℕ, zero, suc, _*_, _≤_, zero-le, min}
+use Prim.Native.Nat.{ℕ, zero, suc, _+_, _*_, _≤_, zero-le, min}
 use native.Mathlib.Nat.{mul-zero, zero-mul}
 use native.Mathlib.Omega.{arith}
 use lib.Dec.{ltb, leb}
-use lib.IntN.{ℤ, pos, negsuc, negℤ, natAbs, _*ℤ_}
+use lib.IntN.{ℤ, pos, negsuc, negℤ, subℕ, natAbs, _+ℤ_, _*ℤ_}
 use lib.Signed.{ltZ, leZ}
 use borrow.Author.Tests.{le-ltb, lt-ltb, le-leb, leb-true}
 use Rattle.ground.specs.Pick.{pick}
 use Rattle.ground.specs.Sign.{signed, below, onMag, fromTo, clip3}
 use Rattle.ground.proofs.Picks.{pick-true, pick-false, and-on, and-off}
-use Rattle.ground.proofs.Diffs.{Which, more, less, which}
+use Rattle.ground.proofs.Diffs.{Which, more, less, which, as-more, as-less}
 
 -- by the two signs
 abbrev pub differ : Bool → Bool → Bool
@@ -30,6 +30,25 @@ pub abs-signed : (s : Bool) (n : ℕ) → natAbs (signed s n) ≡ n
 abs-signed true zero = refl
 abs-signed true (suc n) = refl
 abs-signed false n = refl
+
+pub abs-neg : (z : ℤ) → natAbs (negℤ z) ≡ natAbs z
+abs-neg (pos zero) = refl
+abs-neg (pos (suc n)) = refl
+abs-neg (negsuc n) = refl
+
+-- the magnitude of a sum is at most that of its parts
+abs-sub : (a b : ℕ) → natAbs (subℕ a b) ≤ a + b
+abs-sub a b = by (which a b)
+  where
+    by : Which a b → natAbs (subℕ a b) ≤ a + b
+    by (more h) = omega (arith, ap natAbs (as-more a b h))
+    by (less h) = omega (arith, ap natAbs (as-less a b h))
+
+pub abs-sum : (a b : ℤ) → natAbs (a +ℤ b) ≤ natAbs a + natAbs b
+abs-sum (pos a) (pos b) = omega arith
+abs-sum (pos a) (negsuc b) = abs-sub a (suc b)
+abs-sum (negsuc a) (pos b) = omega (arith, abs-sub b (suc a))
+abs-sum (negsuc a) (negsuc b) = omega arith
 
 pub times : (s t : Bool) (a b : ℕ) → signed s a *ℤ signed t b ≡ signed (differ s t) (a * b)
 times false false a b = refl

@@ -1,0 +1,3 @@
+-- The laws of temporal candidates.
+pub mod Aims
+pub mod Sweeps

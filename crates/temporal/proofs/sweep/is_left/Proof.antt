@@ -1,0 +1,21 @@
+-- `temporal::sweep::is_left` meets its contract.
+-- Assumes nothing.
+use borrow.Author.Tests.{le-ltb, lt-ltb}
+use Rattle.temporal.specs.Sweep.{leftward, cellOf}
+use borrow.Author.Needs.{needs}
+use Rattle.temporal.proofs.sweep.is_left.Statement.{statement}
+use Rattle.temporal.proofs.sweep.is_left.Tie as tie
+
+returns : tie.Need-returns
+unfolding leftward cellOf
+returns c = rw (le-ltb _ _ (c .if1 .taken))
+
+mul-result : tie.Need-mul-result
+mul-result c = search needs
+
+returns-2 : tie.Need-returns-2
+unfolding leftward cellOf
+returns-2 c = rw (lt-ltb _ _ (c .if1 .left))
+
+pub is-left-spec : {M : Type 1} → statement M
+is-left-spec = tie.close (tie.spec returns mul-result returns-2)
