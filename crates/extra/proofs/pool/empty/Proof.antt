@@ -1,0 +1,13 @@
+-- `extra::pool::empty` meets its contract.
+-- Assumes nothing.
+use mathlib.Core.Path.{refl}
+use Rattle.extra.specs.Pool.{heldIn}
+use Rattle.extra.proofs.pool.empty.Statement.{statement}
+use Rattle.extra.proofs.pool.empty.Tie as tie
+
+returns : tie.Need-returns
+unfolding heldIn
+returns c = refl
+
+pub empty-spec : {M : Type 1} → statement M
+empty-spec = tie.close (tie.spec returns)

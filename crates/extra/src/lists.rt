@@ -1,0 +1,82 @@
+// A neighbour's lists, and what each gives to a single search.
+use cells::block::Block;
+use cells::block::MvPair;
+use cells::cell::Ref;
+use stack::add::add_new;
+use stack::candidate::Found;
+use vector::mv::Mv;
+ghost use mathlib.Core.Path.{_≡_};
+ghost use mathlib.Core.Bool.{true};
+ghost use Prim.Native.Nat.{_+_, _≤_, _<_};
+ghost use lib.ListN.{length};
+ghost use Rattle.vector.specs.Vector.{Within};
+ghost use Rattle.cells.specs.Block.{wellBlock};
+ghost use Rattle.stack.specs.Stack.{view};
+ghost use Rattle.extra.specs.Lists.{isRef, biasOf, turned, listOf, extendedBy};
+
+// One of a neighbour's two lists.
+pub struct Listed {
+    pub reference: Ref,
+    pub mv: Mv,
+}
+
+pub(crate) fn as_list(mv: Mv, reference: Ref) -> Listed
+    ensures { λ l. ⌜ l ≡ record { reference = reference; mv = mv } ⌝ }
+{
+    Listed { reference, mv }
+}
+
+// A reference frame, and neither INTRA nor NONE.
+pub(crate) fn is_ref(r: Ref) -> bool
+    ensures { λ a. ⌜ a ≡ isRef r ⌝ }
+{
+    r.from_to(1, 7)
+}
+
+// On which side in time a reference lies.
+fn bias_of(biases: &[u8], r: Ref) -> u8
+    requires { ⌜ (length (now biases) ≡ 7) × (isRef r ≡ true) ⌝ }
+    ensures { λ b. ⌜ b ≡ biasOf (now (biases .entry)) r ⌝ }
+{
+    biases[r.place()]
+}
+
+// The list's vector for the reference r: turned round where the two lie on different sides.
+pub(crate) fn turn(biases: &[u8], r: Ref, l: Listed) -> Mv
+    requires { ⌜ (length (now biases) ≡ 7) × (isRef r ≡ true) × (isRef (l .reference) ≡ true) × Within 16383 (l .mv) ⌝ }
+    ensures { λ v. ⌜ v ≡ turned (now (biases .entry)) r l ⌝ }
+{
+    if bias_of(biases, r) == bias_of(biases, l.reference) {
+        return l.mv;
+    }
+    let v = l.mv;
+    v.negated()
+}
+
+fn extend_by(biases: &[u8], r: Ref, l: Listed, s: Found) -> Found
+    requires { ⌜ (length (now biases) ≡ 7) × (isRef r ≡ true) × (isRef (l .reference) ≡ true) × Within 16383 (l .mv) × (s .count < 8) ⌝ }
+    ensures { λ t. ⌜ (t .count ≤ s .count + 1) × (view t ≡ listOf (now (biases .entry)) r l (view s)) ⌝ }
+{
+    let first = turn(biases, r, l);
+    let second = Mv::ZERO;
+    add_new(s, MvPair { first, second })
+}
+
+// Both lists of a neighbour; a first one without a reference hides the second.
+pub(crate) fn extend(biases: &[u8], r: Ref, k: Block, s: Found) -> Found
+    requires { ⌜ (length (now biases) ≡ 7) × (isRef r ≡ true) × (wellBlock k ≡ true) × (s .count < 2) ⌝ }
+    ensures { λ t. ⌜ (t .count ≤ 3) × (view t ≡ extendedBy (now (biases .entry)) r k (view s)) ⌝ }
+{
+    let mv = k.mv;
+    let refs = k.refs;
+    if !is_ref(refs.first) {
+        return s;
+    }
+    let one = as_list(mv.first, refs.first);
+    let t = extend_by(biases, r, one, s);
+    if !is_ref(refs.second) {
+        return t;
+    }
+    let two = as_list(mv.second, refs.second);
+    extend_by(biases, r, two, t)
+}
