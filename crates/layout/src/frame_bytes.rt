@@ -71,6 +71,14 @@ fn hint_at(s: &[u8], at: usize) -> RefHint
     }
 }
 
+// Hint i of the seven.
+pub fn hint_in(s: &[u8], i: usize) -> RefHint
+    requires { ⌜ (109 ≤ length (now s)) × (i < 7) ⌝ }
+    ensures { λ r. ⌜ r ≡ getD (refHintsAt (now (s .entry))) i noHint ⌝ }
+{
+    hint_at(s, 51 + 4 * i)
+}
+
 fn hints_at(s: &[u8]) -> [RefHint; 7]
     requires { ⌜ 109 ≤ length (now s) ⌝ }
     ensures { λ r. ⌜ r ≡ refHintsAt (now (s .entry)) ⌝ }
@@ -154,7 +162,7 @@ fn well_hints(s: &[u8]) -> bool
 {
     let mut i: usize = 0;
     while i < 7 {
-        let h = hint_at(s, 51 + 4 * i);
+        let h = hint_in(s, i);
         if !h.well_formed() {
             return false;
         }

@@ -48,6 +48,14 @@ pub fn place_in(s: &[u8], e: usize) -> Place
     Place::Absent
 }
 
+// The first cell of the tile row's part of the projection.
+pub fn proj_in(s: &[u8]) -> usize
+    requires { ⌜ 168 ≤ length (now s) ⌝ }
+    ensures { λ r. ⌜ r ≡ tileAt (now (s .entry)) .proj ⌝ }
+{
+    size_at(s, 148)
+}
+
 fn range_at(s: &[u8], start: usize, end: usize) -> TileRange
     requires { ⌜ (start + 4 ≤ length (now s)) × (end + 4 ≤ length (now s)) ⌝ }
     ensures { λ r. ⌜ r ≡ rangeAt (now (s .entry)) start end ⌝ }

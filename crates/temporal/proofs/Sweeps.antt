@@ -21,18 +21,19 @@ use Rattle.temporal.specs.declared.aim.Aim.{Aim}
 use Rattle.temporal.specs.declared.aim.CellRead.{CellRead}
 use Rattle.temporal.specs.declared.aim.CellRead.the-variants.{Of, Absent, Refused}
 use Rattle.temporal.specs.declared.sweep.Field.{Field}
-use Rattle.temporal.specs.declared.sweep.Sweep.{Sweep}
+use Rattle.stack.specs.declared.candidate.Answered.{Answered}
 use Rattle.temporal.specs.Temporal.{cellRead, candidateOf}
-use Rattle.temporal.specs.Sweep.{Swept, refused, found, swept, onSwept, cellSwept, visitOf, inRow, inGrid, whereOf, cellsAlong, hasCorners, cellOf, Fielded}
+use Rattle.stack.specs.Answered.{Outcome, refused, found, outcome, onFound}
+use Rattle.temporal.specs.Sweep.{cellSwept, visitOf, inRow, inGrid, whereOf, cellsAlong, hasCorners, cellOf, Fielded}
 
 -- a result with the answer 0, and one with a refusal
-pub swept-found : (r : Sweep) → r .answer ≡ 0 → swept r ≡ found (view (r .found))
-unfolding swept
-swept-found r e = pick-true _ (eq-eqb _ _ e)
+pub is-found : (r : Answered) → r .answer ≡ 0 → outcome r ≡ found (view (r .found))
+unfolding outcome
+is-found r e = pick-true _ (eq-eqb _ _ e)
 
-pub swept-refused : (r : Sweep) → (r .answer ≡ 0 → ⊥) → swept r ≡ refused (r .answer)
-unfolding swept
-swept-refused r n = pick-false _ (ne-eqb _ _ n)
+pub is-refused : (r : Answered) → (r .answer ≡ 0 → ⊥) → outcome r ≡ refused (r .answer)
+unfolding outcome
+is-refused r n = pick-false _ (ne-eqb _ _ n)
 
 -- a refusal's number is not 0
 read-refused : (l : List ℕ) (total i n : ℕ) → cellRead l total i ≡ Refused n → 1 ≤ n
@@ -48,28 +49,28 @@ read-refused l total i n e = by (not (ltb i total)) (not (wellProjected (cellAt 
 -- one cell, by what was read
 module _ (l : List ℕ) (total i : ℕ) (a : Aim) (s : Found) where
   pub visit-refused : {n : ℕ} {q : CellRead} → q ≡ cellRead l total i → q ≡ Refused n
-      → swept (record { found = s; answer = n }) ≡ visitOf (cellRead l total) a i (view s)
+      → outcome (record { found = s; answer = n }) ≡ visitOf (cellRead l total) a i (view s)
   unfolding visitOf
   visit-refused {n} e t =
       let k = read-refused l total i n (sym e ∙ t) in
-      swept-refused (record { found = s; answer = n }) (λ z. lt-irrefl 0 (omega arith)) ∙ ap (cellSwept a (view s)) (sym t ∙ e)
+      is-refused (record { found = s; answer = n }) (λ z. lt-irrefl 0 (omega arith)) ∙ ap (cellSwept a (view s)) (sym t ∙ e)
 
   pub visit-absent : {q : CellRead} → q ≡ cellRead l total i → q ≡ Absent
-      → swept (record { found = s; answer = 0 }) ≡ visitOf (cellRead l total) a i (view s)
+      → outcome (record { found = s; answer = 0 }) ≡ visitOf (cellRead l total) a i (view s)
   unfolding visitOf
-  visit-absent e t = swept-found (record { found = s; answer = 0 }) refl ∙ ap (cellSwept a (view s)) (sym t ∙ e)
+  visit-absent e t = is-found (record { found = s; answer = 0 }) refl ∙ ap (cellSwept a (view s)) (sym t ∙ e)
 
   pub visit-joined : {c : Cell} {p : MvPair} {q : CellRead} (r : Found) → q ≡ cellRead l total i → q ≡ Of c
       → p ≡ candidateOf a c → view r ≡ joined (view s) p 2
-      → swept (record { found = r; answer = 0 }) ≡ visitOf (cellRead l total) a i (view s)
+      → outcome (record { found = r; answer = 0 }) ≡ visitOf (cellRead l total) a i (view s)
   unfolding visitOf
   visit-joined r e t k j =
-      swept-found (record { found = r; answer = 0 }) refl ∙ ap found (j ∙ ap (λ (x : MvPair). joined (view s) x 2) k) ∙ ap (cellSwept a (view s)) (sym t ∙ e)
+      is-found (record { found = r; answer = 0 }) refl ∙ ap found (j ∙ ap (λ (x : MvPair). joined (view s) x 2) k) ∙ ap (cellSwept a (view s)) (sym t ∙ e)
 
 -- What a row of cells and a grid of rows have in common: `one` at i, then on from i + step.
-pub record Turns (go : ℕ → ℕ → State → Swept) (one : ℕ → State → Swept) (step : ℕ) : Type 0 where
+pub record Turns (go : ℕ → ℕ → State → Outcome) (one : ℕ → State → Outcome) (step : ℕ) : Type 0 where
   pub none : (i : ℕ) (s : State) → go 0 i s ≡ found s
-  pub more : (n i : ℕ) (s : State) → go (suc n) i s ≡ onSwept (one i s) (go n (i + step))
+  pub more : (n i : ℕ) (s : State) → go (suc n) i s ≡ onFound (one i s) (go n (i + step))
 
 pub row-turns : (cells : ℕ → CellRead) (a : Aim) (step : ℕ) → Turns (inRow cells a step) (visitOf cells a) step
 unfolding inRow
@@ -80,36 +81,36 @@ unfolding inGrid
 grid-turns cells a step n down = record { none = λ i s. refl; more = λ m i s. refl }
 
 -- A loop over them holds `o ≡ go left i s`, the definition on the rest: at its end, at a refusal, and from turn to turn.
-module _ {go : ℕ → ℕ → State → Swept} {one : ℕ → State → Swept} {step : ℕ} (t : Turns go one step) {o : Swept} {i : ℕ} {s : State} where
+module _ {go : ℕ → ℕ → State → Outcome} {one : ℕ → State → Outcome} {step : ℕ} (t : Turns go one step) {o : Outcome} {i : ℕ} {s : State} where
   pub turns-end : (left : ℕ) → left ≤ 0 → o ≡ go left i s → o ≡ found s
   turns-end zero h e = e ∙ t .none i s
   turns-end (suc n) h e = absurd (lt-irrefl 0 (omega arith))
 
-  pub turns-refused : (left : ℕ) {v : Swept} {k : ℕ} → 0 < left → v ≡ one i s → v ≡ refused k → o ≡ go left i s → v ≡ o
+  pub turns-refused : (left : ℕ) {v : Outcome} {k : ℕ} → 0 < left → v ≡ one i s → v ≡ refused k → o ≡ go left i s → v ≡ o
   turns-refused zero h e r p = absurd (lt-irrefl 0 h)
-  turns-refused (suc n) h e r p = r ∙ sym (p ∙ t .more n i s ∙ ap (λ (x : Swept). onSwept x (go n (i + step))) (sym e ∙ r))
+  turns-refused (suc n) h e r p = r ∙ sym (p ∙ t .more n i s ∙ ap (λ (x : Outcome). onFound x (go n (i + step))) (sym e ∙ r))
 
-  pub turns-on : (left : ℕ) {v : Swept} {u : State} → 0 < left → v ≡ one i s → v ≡ found u → o ≡ go left i s → o ≡ go (left - 1) (i + step) u
+  pub turns-on : (left : ℕ) {v : Outcome} {u : State} → 0 < left → v ≡ one i s → v ≡ found u → o ≡ go left i s → o ≡ go (left - 1) (i + step) u
   turns-on zero h e r p = absurd (lt-irrefl 0 h)
   turns-on (suc n) {u = u} h e r p =
       let k : n ≡ suc n - 1 = omega arith in
-      p ∙ t .more n i s ∙ ap (λ (x : Swept). onSwept x (go n (i + step))) (sym e ∙ r) ∙ ap (λ m. go m (i + step) u) k
+      p ∙ t .more n i s ∙ ap (λ (x : Outcome). onFound x (go n (i + step))) (sym e ∙ r) ∙ ap (λ m. go m (i + step) u) k
 
 -- a cell that is looked at only where it is to be
-module _ (cells : ℕ → CellRead) (a : Aim) (i : ℕ) (r : Sweep) where
-  pub where-refused : (here : Bool) → (r .answer ≡ 0 → ⊥) → swept r ≡ whereOf here cells a i (swept r)
+module _ (cells : ℕ → CellRead) (a : Aim) (i : ℕ) (r : Answered) where
+  pub where-refused : (here : Bool) → (r .answer ≡ 0 → ⊥) → outcome r ≡ whereOf here cells a i (outcome r)
   unfolding whereOf
   where-refused here n =
-      let e = swept-refused r n in
-      e ∙ sym (ap (λ (x : Swept). onSwept x (λ s. pick here (visitOf cells a i s) (found s))) e)
+      let e = is-refused r n in
+      e ∙ sym (ap (λ (x : Outcome). onFound x (λ s. pick here (visitOf cells a i s) (found s))) e)
 
-  pub where-here : {here : Bool} {v : Swept} → r .answer ≡ 0 → here ≡ true → v ≡ visitOf cells a i (view (r .found)) → v ≡ whereOf here cells a i (swept r)
+  pub where-here : {here : Bool} {v : Outcome} → r .answer ≡ 0 → here ≡ true → v ≡ visitOf cells a i (view (r .found)) → v ≡ whereOf here cells a i (outcome r)
   unfolding whereOf
-  where-here z h e = rw (swept-found r z, h) e
+  where-here z h e = rw (is-found r z, h) e
 
-  pub where-not : {here : Bool} → r .answer ≡ 0 → here ≡ false → swept r ≡ whereOf here cells a i (swept r)
+  pub where-not : {here : Bool} → r .answer ≡ 0 → here ≡ false → outcome r ≡ whereOf here cells a i (outcome r)
   unfolding whereOf
-  where-not z h = rw (swept-found r z, h)
+  where-not z h = rw (is-found r z, h)
 
 -- at most eight cells are looked at along a side
 pub cells-most : (limit step : ℕ) → limit ≤ 16 → 1 ≤ step → step ≤ 2 → cellsAlong limit step ≤ 8

@@ -6,43 +6,31 @@ use lib.IntN.{natAbs}
 use Rattle.ground.specs.Pick.{pick}
 use Rattle.site.specs.declared.block.Site.{Site}
 use Rattle.site.specs.Site.{limitOf}
-use Rattle.stack.specs.Stack.{State, view, joined}
+use Rattle.stack.specs.Stack.{State, joined}
+use Rattle.stack.specs.Answered.{Outcome, refused, found, onFound}
 use Rattle.temporal.specs.declared.aim.Aim.{Aim}
 use Rattle.temporal.specs.declared.aim.CellRead.{CellRead}
 use Rattle.temporal.specs.declared.aim.CellRead.the-variants.{Of, Absent, Refused}
 use Rattle.temporal.specs.declared.sweep.Field.{Field}
-use Rattle.temporal.specs.declared.sweep.Sweep.{Sweep}
 use Rattle.temporal.specs.Temporal.{candidateOf}
 
--- refused, or what has been found
-pub data Swept : Type 0 where
-  refused : ℕ → Swept
-  found : State → Swept
-
-unfoldable pub swept : Sweep → Swept
-swept r = pick (eqb (r .answer) 0) (found (view (r .found))) (refused (r .answer))
-
-abbrev pub onSwept : Swept → (State → Swept) → Swept
-onSwept (refused n) f = refused n
-onSwept (found s) f = f s
-
 -- a cell that is read: absent leaves nothing, else its candidate joins with weight 2
-abbrev pub cellSwept : Aim → State → CellRead → Swept
+abbrev pub cellSwept : Aim → State → CellRead → Outcome
 cellSwept a s (Of c) = found (joined s (candidateOf a c) 2)
 cellSwept a s Absent = found s
 cellSwept a s (Refused n) = refused n
 
-unfoldable pub visitOf : (ℕ → CellRead) → Aim → ℕ → State → Swept
+unfoldable pub visitOf : (ℕ → CellRead) → Aim → ℕ → State → Outcome
 visitOf cells a i s = cellSwept a s (cells i)
 
 -- n cells from cell i on, `step` apart; and m such rows, `down` apart
-unfoldable pub inRow : (ℕ → CellRead) → Aim → (step n i : ℕ) → State → Swept
+unfoldable pub inRow : (ℕ → CellRead) → Aim → (step n i : ℕ) → State → Outcome
 inRow cells a step zero i s = found s
-inRow cells a step (suc n) i s = onSwept (visitOf cells a i s) (inRow cells a step n (i + step))
+inRow cells a step (suc n) i s = onFound (visitOf cells a i s) (inRow cells a step n (i + step))
 
-unfoldable pub inGrid : (ℕ → CellRead) → Aim → (step n down m i : ℕ) → State → Swept
+unfoldable pub inGrid : (ℕ → CellRead) → Aim → (step n down m i : ℕ) → State → Outcome
 inGrid cells a step n down zero i s = found s
-inGrid cells a step n down (suc m) i s = onSwept (inRow cells a step n i s) (inGrid cells a step n down m (i + down))
+inGrid cells a step n down (suc m) i s = onFound (inRow cells a step n i s) (inGrid cells a step n down m (i + down))
 
 -- A side of 16 units or more has every other cell looked at.
 unfoldable pub strideAlong : ℕ → ℕ
@@ -53,7 +41,7 @@ unfoldable pub cellsAlong : ℕ → ℕ → ℕ
 cellsAlong limit step = ((limit + 1) / 2 + step - 1) / step
 
 -- the block's own cells, by row, then column
-unfoldable pub gridOf : (ℕ → CellRead) → Aim → Field → Site → State → Swept
+unfoldable pub gridOf : (ℕ → CellRead) → Aim → Field → Site → State → Outcome
 gridOf cells a f b s =
     inGrid cells a (strideAlong (b .w .0)) (cellsAlong (limitOf false b) (strideAlong (b .w .0)))
     (strideAlong (b .h .0) * f .stride) (cellsAlong (limitOf true b) (strideAlong (b .h .0))) (f .first) s
@@ -76,17 +64,17 @@ there down b n = ltb (cellOf down b + n) (endOf down b)
 unfoldable pub leftward : Site → Bool
 leftward b = ltb (b .col .start .0 / 2) (cellOf false b) && ltb (cellOf false b / 8 * 8) (cellOf false b)
 
-unfoldable pub whereOf : Bool → (ℕ → CellRead) → Aim → ℕ → Swept → Swept
-whereOf here cells a i r = onSwept r (λ s. pick here (visitOf cells a i s) (found s))
+unfoldable pub whereOf : Bool → (ℕ → CellRead) → Aim → ℕ → Outcome → Outcome
+whereOf here cells a i r = onFound r (λ s. pick here (visitOf cells a i s) (found s))
 
 -- bw8 and bh8 are the block's sides in cells
-unfoldable pub cornersOf : (ℕ → CellRead) → Aim → Field → Site → Swept → Swept
+unfoldable pub cornersOf : (ℕ → CellRead) → Aim → Field → Site → Outcome → Outcome
 cornersOf cells a f b r =
     whereOf (there false b (b .w .0 / 2) && there true b (b .h .0 / 2 - 1)) cells a (f .first + b .h .0 / 2 * f .stride + b .w .0 / 2 - f .stride)
     (whereOf (there false b (b .w .0 / 2) && there true b (b .h .0 / 2)) cells a (f .first + b .h .0 / 2 * f .stride + b .w .0 / 2)
     (whereOf (there true b (b .h .0 / 2) && leftward b) cells a (f .first + b .h .0 / 2 * f .stride - 1) r))
 
-unfoldable pub temporalOf : (ℕ → CellRead) → Aim → Field → Site → State → Swept
+unfoldable pub temporalOf : (ℕ → CellRead) → Aim → Field → Site → State → Outcome
 temporalOf cells a f b s = pick (hasCorners b) (cornersOf cells a f b (gridOf cells a f b s)) (gridOf cells a f b s)
 
 -- What a caller sees to: the stack takes `more` weight,

@@ -8,7 +8,7 @@ use lib.IntN.{ℤ, pos, negℤ, _+ℤ_, natAbs}
 use Rattle.ground.specs.Pick.{pick}
 use Rattle.ground.specs.Sign.{fromTo}
 use Rattle.vector.specs.declared.mv.Mv.{Mv}
-use Rattle.vector.specs.Vector.{both}
+use Rattle.vector.specs.Vector.{zero, both}
 use Rattle.vector.specs.Projection.{projected}
 use Rattle.vector.specs.Precision.{lowered}
 use Rattle.cells.specs.declared.cell.Ref.{Ref}
@@ -31,15 +31,12 @@ cellRead proj total i =
 unfoldable pub towards : ℤ → ℕ → Bool → Bool → Mv → Mv
 towards num den integer hp v = both (lowered integer hp) (both (projected num den) v)
 
-abbrev pub zeroMv : Mv
-zeroMv = record { y = pos 0; x = pos 0 }
-
 -- the candidate of a vector over the distance den: towards both references, or towards the one of a single search
 unfoldable pub pairOf : Aim → ℕ → Mv → MvPair
 pairOf a den v =
     record {
       first = towards (a .first) den (a .integer) (a .hp) v;
-      second = pick (a .compound) (towards (a .second) den (a .integer) (a .hp) v) zeroMv;
+      second = pick (a .compound) (towards (a .second) den (a .integer) (a .hp) v) zero;
     }
 
 abbrev pub candidateOf : Aim → Cell → MvPair

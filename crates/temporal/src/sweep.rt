@@ -7,15 +7,17 @@ use crate::aim::pair_of;
 use rows::setup::lesser;
 use site::block::Site;
 use stack::add::add;
+use stack::candidate::Answered;
 use stack::candidate::Found;
 ghost use mathlib.Core.Path.{_≡_};
 ghost use mathlib.Core.Bool.{true, _&&_};
 ghost use Prim.Native.Nat.{_+_, _*_, _≤_, _<_, _^_};
 ghost use lib.ListN.{length};
 ghost use Rattle.stack.specs.Stack.{live, view, heft};
+ghost use Rattle.stack.specs.Answered.{outcome};
 ghost use Rattle.site.specs.Site.{Placed};
 ghost use Rattle.temporal.specs.Temporal.{cellRead};
-ghost use Rattle.temporal.specs.Sweep.{swept, visitOf, whereOf, inRow, inGrid, strideAlong, cellsAlong, gridOf, cellOf, endOf, there, leftward, hasCorners, cornersOf, temporalOf, Light, Near, Fielded};
+ghost use Rattle.temporal.specs.Sweep.{visitOf, whereOf, inRow, inGrid, strideAlong, cellsAlong, gridOf, cellOf, endOf, there, leftward, hasCorners, cornersOf, temporalOf, Light, Near, Fielded};
 
 // The projection as a block's search sees it: the number of the block's own first cell, the cells of
 // a row, and how many are listed.
@@ -25,30 +27,24 @@ pub struct Field {
     pub total: usize,
 }
 
-// answer is 0, or a refusal, and then nothing is meant by found.
-pub struct Sweep {
-    pub found: Found,
-    pub answer: u8,
-}
-
 // One cell: nothing where it is absent.
-fn visit(proj: &[u8], total: usize, i: usize, a: Aim, s: Found) -> Sweep
+fn visit(proj: &[u8], total: usize, i: usize, a: Aim, s: Found) -> Answered
     requires { ⌜ Near (length (now proj)) total a × Light 2 (s .count) (heft (live s)) ⌝ }
     ensures { λ r. ⌜ (r .found .count ≤ 8) × (heft (live (r .found)) ≤ heft (live s) + 2) ⌝ }
-    ensures { λ r. ⌜ swept r ≡ visitOf (cellRead (now (proj .entry)) total) a i (view s) ⌝ }
+    ensures { λ r. ⌜ outcome r ≡ visitOf (cellRead (now (proj .entry)) total) a i (view s) ⌝ }
 {
     match cell_at(proj, total, i) {
-        CellRead::Refused(n) => Sweep {
+        CellRead::Refused(n) => Answered {
             found: s,
             answer: n,
         },
-        CellRead::Absent => Sweep {
+        CellRead::Absent => Answered {
             found: s,
             answer: 0,
         },
         CellRead::Of(c) => {
             let found = add(s, pair_of(c, a), 2);
-            Sweep { found, answer: 0 }
+            Answered { found, answer: 0 }
         }
     }
 }
@@ -62,10 +58,10 @@ fn sweep_row(
     n: usize,
     a: Aim,
     s: Found,
-) -> Sweep
+) -> Answered
     requires { ⌜ Near (length (now proj)) total a × Light 16 (s .count) (heft (live s)) × (n ≤ 8) × (step ≤ 2) × (first < 2 ^ 48) ⌝ }
     ensures { λ r. ⌜ (r .found .count ≤ 8) × (heft (live (r .found)) ≤ heft (live s) + 2 * n) ⌝ }
-    ensures { λ r. ⌜ swept r ≡ inRow (cellRead (now (proj .entry)) total) a step n first (view s) ⌝ }
+    ensures { λ r. ⌜ outcome r ≡ inRow (cellRead (now (proj .entry)) total) a step n first (view s) ⌝ }
 {
     let mut t = s;
     let mut i = first;
@@ -79,7 +75,7 @@ fn sweep_row(
         i += step;
         left -= 1;
     }
-    Sweep {
+    Answered {
         found: t,
         answer: 0,
     }
@@ -95,10 +91,10 @@ fn sweep_grid(
     m: usize,
     a: Aim,
     s: Found,
-) -> Sweep
+) -> Answered
     requires { ⌜ Near (length (now proj)) (f .total) a × Light 128 (s .count) (heft (live s)) × (n ≤ 8) × (step ≤ 2) × (m ≤ 8) × (down ≤ 8192) × (f .first < 2 ^ 40) ⌝ }
     ensures { λ r. ⌜ (r .found .count ≤ 8) × (heft (live (r .found)) ≤ heft (live s) + 16 * m) ⌝ }
-    ensures { λ r. ⌜ swept r ≡ inGrid (cellRead (now (proj .entry)) (f .total)) a step n down m (f .first) (view s) ⌝ }
+    ensures { λ r. ⌜ outcome r ≡ inGrid (cellRead (now (proj .entry)) (f .total)) a step n down m (f .first) (view s) ⌝ }
 {
     let mut t = s;
     let mut i = f.first;
@@ -112,7 +108,7 @@ fn sweep_grid(
         i += down;
         left -= 1;
     }
-    Sweep {
+    Answered {
         found: t,
         answer: 0,
     }
@@ -133,10 +129,10 @@ fn cells_along(limit: usize, step: usize) -> usize
     ((limit + 1) / 2 + step - 1) / step
 }
 
-fn sweep_block(proj: &[u8], f: Field, b: Site, a: Aim, s: Found) -> Sweep
+fn sweep_block(proj: &[u8], f: Field, b: Site, a: Aim, s: Found) -> Answered
     requires { ⌜ Near (length (now proj)) (f .total) a × Light 128 (s .count) (heft (live s)) × Fielded f × Placed b ⌝ }
     ensures { λ r. ⌜ (r .found .count ≤ 8) × (heft (live (r .found)) ≤ heft (live s) + 128) ⌝ }
-    ensures { λ r. ⌜ swept r ≡ gridOf (cellRead (now (proj .entry)) (f .total)) a f b (view s) ⌝ }
+    ensures { λ r. ⌜ outcome r ≡ gridOf (cellRead (now (proj .entry)) (f .total)) a f b (view s) ⌝ }
 {
     let dx = stride_along(b.w.0);
     let dy = stride_along(b.h.0);
@@ -146,10 +142,10 @@ fn sweep_block(proj: &[u8], f: Field, b: Site, a: Aim, s: Found) -> Sweep
 }
 
 // Only where all before were read, and the cell is one to be looked at.
-fn visit_where(here: bool, proj: &[u8], total: usize, i: usize, a: Aim, r: Sweep) -> Sweep
+fn visit_where(here: bool, proj: &[u8], total: usize, i: usize, a: Aim, r: Answered) -> Answered
     requires { ⌜ Near (length (now proj)) total a × Light 2 (r .found .count) (heft (live (r .found))) ⌝ }
     ensures { λ t. ⌜ (t .found .count ≤ 8) × (heft (live (t .found)) ≤ heft (live (r .found)) + 2) ⌝ }
-    ensures { λ t. ⌜ swept t ≡ whereOf here (cellRead (now (proj .entry)) total) a i (swept r) ⌝ }
+    ensures { λ t. ⌜ outcome t ≡ whereOf here (cellRead (now (proj .entry)) total) a i (outcome r) ⌝ }
 {
     if r.answer != 0 {
         return r;
@@ -218,10 +214,10 @@ fn has_corners(b: Site) -> bool
 }
 
 // Below left, below right, and to the right of the block's last row.
-fn sweep_corners(proj: &[u8], f: Field, b: Site, a: Aim, r: Sweep) -> Sweep
+fn sweep_corners(proj: &[u8], f: Field, b: Site, a: Aim, r: Answered) -> Answered
     requires { ⌜ Near (length (now proj)) (f .total) a × Light 6 (r .found .count) (heft (live (r .found))) × Fielded f × Placed b × (hasCorners b ≡ true) ⌝ }
     ensures { λ t. ⌜ (t .found .count ≤ 8) × (heft (live (t .found)) ≤ heft (live (r .found)) + 6) ⌝ }
-    ensures { λ t. ⌜ swept t ≡ cornersOf (cellRead (now (proj .entry)) (f .total)) a f b (swept r) ⌝ }
+    ensures { λ t. ⌜ outcome t ≡ cornersOf (cellRead (now (proj .entry)) (f .total)) a f b (outcome r) ⌝ }
 {
     let w8 = b.w.0 / 2;
     let h8 = b.h.0 / 2;
@@ -248,10 +244,10 @@ fn both(a: bool, b: bool) -> bool
 }
 
 // All that the projection gives to a block's search.
-pub fn sweep_all(proj: &[u8], f: Field, b: Site, a: Aim, s: Found) -> Sweep
+pub fn sweep_all(proj: &[u8], f: Field, b: Site, a: Aim, s: Found) -> Answered
     requires { ⌜ Near (length (now proj)) (f .total) a × Light 134 (s .count) (heft (live s)) × Fielded f × Placed b ⌝ }
     ensures { λ r. ⌜ (r .found .count ≤ 8) × (heft (live (r .found)) ≤ heft (live s) + 134) ⌝ }
-    ensures { λ r. ⌜ swept r ≡ temporalOf (cellRead (now (proj .entry)) (f .total)) a f b (view s) ⌝ }
+    ensures { λ r. ⌜ outcome r ≡ temporalOf (cellRead (now (proj .entry)) (f .total)) a f b (view s) ⌝ }
 {
     let r = sweep_block(proj, f, b, a, s);
     if has_corners(b) {

@@ -12,10 +12,9 @@ use Rattle.ground.proofs.Belows.{none, one-more, one-fails, up, done}
 use Rattle.frame.specs.Distances.{wellHint}
 use Rattle.frame.specs.Record.{noHint}
 use Rattle.layout.specs.FrameBytes.{refHintsAt}
-use Rattle.layout.proofs.Read.{hint-here}
 use Rattle.layout.proofs.frame_bytes.well_hints.Statement.{statement}
 use Rattle.layout.proofs.frame_bytes.well_hints.Tie as tie
-use Rattle.layout.proofs.frame_bytes.hint_at.Reads as hint-at-reads
+use Rattle.layout.proofs.frame_bytes.hint_in.Reads as hint-in-reads
 use Rattle.frame.proofs.distances.RefHint.well_formed.Reads as well-formed-reads
 
 abbrev Inv-loop : tie.InvT-loop
@@ -27,20 +26,14 @@ abbrev μ-loop : tie.MeasureT-loop
 loop-holds : tie.Need-loop-holds Inv-loop μ-loop
 loop-holds c = (omega arith, none _)
 
-mul-hint-at : tie.Need-mul-hint-at Inv-loop μ-loop
-mul-hint-at c = search needs
-
-add-hint-at : tie.Need-add-hint-at Inv-loop μ-loop
-add-hint-at c = search needs
-
-hint-at-requires : tie.Need-hint-at-requires Inv-loop μ-loop
-hint-at-requires c κs = search needs
+hint-in-requires : tie.Need-hint-in-requires Inv-loop μ-loop
+hint-in-requires c κs = search needs
 
 well-formed-requires : tie.Need-well-formed-requires Inv-loop μ-loop
 well-formed-requires c κs = search needs
 
 returns : tie.Need-returns Inv-loop μ-loop
-returns c = sym (one-fails _ 7 _ (c .before .before .before .loop-test .taken) (ap wellHint (sym (hint-here _ _ (c .before .before .before .loop-test .taken)) ∙ sym (c .before .before .hint-at .ensures)) ∙ sym (c .before .well-formed .ensures) ∙ not-true _ (c .if1 .taken)))
+returns c = sym (one-fails _ 7 _ (c .before .before .before .loop-test .taken) (ap wellHint (sym (c .before .before .hint-in .ensures)) ∙ sym (c .before .well-formed .ensures) ∙ not-true _ (c .if1 .taken)))
 
 add-i : tie.Need-add-i Inv-loop μ-loop
 add-i c = search needs
@@ -49,7 +42,7 @@ loop-less : tie.Need-loop-less Inv-loop μ-loop
 loop-less c = search needs
 
 loop-again : tie.Need-loop-again Inv-loop μ-loop
-loop-again c = (omega arith, up _ (c .before .before .before .before .loop .i) (one-more _ _ (c .before .before .before .before .loop .inv .1) (ap wellHint (sym (hint-here _ _ (c .before .before .before .loop-test .taken)) ∙ sym (c .before .before .hint-at .ensures)) ∙ sym (c .before .well-formed .ensures) ∙ not-false _ (c .if1 .left))))
+loop-again c = (omega arith, up _ (c .before .before .before .before .loop .i) (one-more _ _ (c .before .before .before .before .loop .inv .1) (ap wellHint (sym (c .before .before .hint-in .ensures)) ∙ sym (c .before .well-formed .ensures) ∙ not-false _ (c .if1 .left))))
 
 returns-2 : tie.Need-returns-2 Inv-loop μ-loop
 returns-2 c = sym (done _ _ 7 (c .loop-test .left) (c .before .loop .inv .0) (c .before .loop .inv .1))
@@ -61,9 +54,7 @@ well-hints-spec =
     Inv-loop
     μ-loop
     loop-holds
-    mul-hint-at
-    add-hint-at
-    hint-at-requires
+    hint-in-requires
     well-formed-requires
     returns
     add-i

@@ -1,7 +1,8 @@
 -- `temporal::aim::second_of` meets its contract.
 -- Assumes nothing.
 use mathlib.Core.Path.{sym, _∙_}
-use Rattle.temporal.specs.Temporal.{zeroMv, pairOf}
+use Rattle.vector.specs.Vector.{zero}
+use Rattle.temporal.specs.Temporal.{pairOf}
 use Rattle.temporal.proofs.Aims.{taken-towards}
 use Rattle.ground.proofs.Picks.{pick-true, pick-false}
 use borrow.Author.Needs.{needs}
@@ -17,7 +18,7 @@ returns c =
     let s = c .before .before .before in
     let a = s .args .a in
     taken-towards (a .second) (s .args .den) (a .integer) (a .hp) (s .args .c .mv) (s .pre .1) (c .take-towards .ensures .0)
-    ∙ sym (pick-true zeroMv (c .before .before .if1 .taken))
+    ∙ sym (pick-true zero (c .before .before .if1 .taken))
 
 returns-2 : tie.Need-returns-2
 unfolding pairOf

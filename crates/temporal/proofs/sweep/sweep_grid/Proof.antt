@@ -7,7 +7,7 @@ use denote.Ref.{now}
 use Rattle.stack.specs.Stack.{live, view, heft}
 use Rattle.temporal.specs.Temporal.{cellRead}
 use Rattle.temporal.specs.Sweep.{inGrid}
-use Rattle.temporal.proofs.Sweeps.{swept-found, swept-refused, grid-turns, turns-end, turns-refused, turns-on}
+use Rattle.temporal.proofs.Sweeps.{is-found, is-refused, grid-turns, turns-end, turns-refused, turns-on}
 use Rattle.temporal.proofs.sweep.sweep_grid.Statement.{statement}
 use Rattle.temporal.proofs.sweep.sweep_grid.Tie as tie
 
@@ -29,7 +29,7 @@ returns : tie.Need-returns Inv-loop μ-loop
 returns c =
     let r = c .before .before .sweep-row in
     let l = c .before .before .before .before .loop in
-    ((r .ensures .0 .0, omega arith), turns-refused (grid-turns _ _ _ _ _) (l .left) (c .before .before .before .loop-test .taken) (r .ensures .1) (swept-refused (r .result) (c .if1 .taken)) (l .inv .4))
+    ((r .ensures .0 .0, omega arith), turns-refused (grid-turns _ _ _ _ _) (l .left) (c .before .before .before .loop-test .taken) (r .ensures .1) (is-refused (r .result) (c .if1 .taken)) (l .inv .4))
 
 add-i : tie.Need-add-i Inv-loop μ-loop
 add-i c = omega arith
@@ -45,14 +45,14 @@ loop-again c =
     let r = c .before .before .before .sweep-row in
     let l = c .before .before .before .before .before .loop in
     let s = c .before .before .before .before .before .before .before .args in
-    let e = turns-on (grid-turns (cellRead (now (s .proj)) (s .f .total)) _ _ _ _) (l .left) (c .before .before .before .before .loop-test .taken) (r .ensures .1) (swept-found (r .result) (c .before .if1 .left)) (l .inv .4) in
+    let e = turns-on (grid-turns (cellRead (now (s .proj)) (s .f .total)) _ _ _ _) (l .left) (c .before .before .before .before .loop-test .taken) (r .ensures .1) (is-found (r .result) (c .before .if1 .left)) (l .inv .4) in
     (omega arith, omega arith, r .ensures .0 .0, omega arith, e)
 
 returns-2 : tie.Need-returns-2 Inv-loop μ-loop
 returns-2 c =
     let l = c .before .loop in
     let z : l .left ≤ 0 = omega arith in
-    ((l .inv .2, omega arith), swept-found (record { found = l .t; answer = 0 }) refl ∙ sym (turns-end (grid-turns _ _ _ _ _) (l .left) z (l .inv .4)))
+    ((l .inv .2, omega arith), is-found (record { found = l .t; answer = 0 }) refl ∙ sym (turns-end (grid-turns _ _ _ _ _) (l .left) z (l .inv .4)))
 
 pub sweep-grid-spec : {M : Type 1} → statement M
 sweep-grid-spec =

@@ -6,7 +6,7 @@ use native.Mathlib.Omega.{arith}
 use Rattle.stack.specs.Stack.{live, view, heft}
 use Rattle.temporal.specs.Temporal.{cellRead}
 use Rattle.temporal.specs.Sweep.{inRow}
-use Rattle.temporal.proofs.Sweeps.{swept-found, swept-refused, row-turns, turns-end, turns-refused, turns-on}
+use Rattle.temporal.proofs.Sweeps.{is-found, is-refused, row-turns, turns-end, turns-refused, turns-on}
 use Rattle.temporal.proofs.sweep.sweep_row.Statement.{statement}
 use Rattle.temporal.proofs.sweep.sweep_row.Tie as tie
 
@@ -28,7 +28,7 @@ returns : tie.Need-returns Inv-loop μ-loop
 returns c =
     let r = c .before .before .visit in
     let l = c .before .before .before .before .loop in
-    ((r .ensures .0 .0, omega arith), turns-refused (row-turns _ _ _) (l .left) (c .before .before .before .loop-test .taken) (r .ensures .1) (swept-refused (r .result) (c .if1 .taken)) (l .inv .4))
+    ((r .ensures .0 .0, omega arith), turns-refused (row-turns _ _ _) (l .left) (c .before .before .before .loop-test .taken) (r .ensures .1) (is-refused (r .result) (c .if1 .taken)) (l .inv .4))
 
 add-i : tie.Need-add-i Inv-loop μ-loop
 add-i c = omega arith
@@ -43,14 +43,14 @@ loop-again : tie.Need-loop-again Inv-loop μ-loop
 loop-again c =
     let r = c .before .before .before .visit in
     let l = c .before .before .before .before .before .loop in
-    let e = turns-on (row-turns _ _ _) (l .left) (c .before .before .before .before .loop-test .taken) (r .ensures .1) (swept-found (r .result) (c .before .if1 .left)) (l .inv .4) in
+    let e = turns-on (row-turns _ _ _) (l .left) (c .before .before .before .before .loop-test .taken) (r .ensures .1) (is-found (r .result) (c .before .if1 .left)) (l .inv .4) in
     (omega arith, omega arith, r .ensures .0 .0, omega arith, e)
 
 returns-2 : tie.Need-returns-2 Inv-loop μ-loop
 returns-2 c =
     let l = c .before .loop in
     let z : l .left ≤ 0 = omega arith in
-    ((l .inv .2, omega arith), swept-found (record { found = l .t; answer = 0 }) refl ∙ sym (turns-end (row-turns _ _ _) (l .left) z (l .inv .4)))
+    ((l .inv .2, omega arith), is-found (record { found = l .t; answer = 0 }) refl ∙ sym (turns-end (row-turns _ _ _) (l .left) z (l .inv .4)))
 
 pub sweep-row-spec : {M : Type 1} → statement M
 sweep-row-spec =
