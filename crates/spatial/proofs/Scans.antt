@@ -117,7 +117,7 @@ unfolding outcome
 not-found r h = rw (ne-eqb (r .answer) 0 (λ e. lt-irrefl 0 (omega arith)))
 
 -- the weight of a neighbour as long as the block, for at most three rows
-weight-le : (p : Span) (across : ℕ) → p .rows ≤ 3 → weightOf p across ≤ 6
+pub weight-le : (p : Span) (across : ℕ) → p .rows ≤ 3 → weightOf p across ≤ 6
 unfolding weightOf
 weight-le p across h = cases (eqb (p .size) 1)
   where

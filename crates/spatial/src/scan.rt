@@ -91,7 +91,7 @@ fn scan_on(
     s: Found,
 ) -> Scan
     requires { ⌜ Room (length (now tile)) (length (now recs)) total l × Fair (s .count) 0 p × (heft (live s) < 2 ^ 31) × (from ≤ 64) ⌝ }
-    ensures { λ r. ⌜ (r .found .count ≤ 8) × (heft (live (r .found)) ≤ heft (live s) + 256) ⌝ }
+    ensures { λ r. ⌜ (r .found .count ≤ 8) × (heft (live (r .found)) ≤ heft (live s) + 256) × (r .reach ≤ 16) ⌝ }
     ensures { λ r. ⌜ outcome r ≡ scanOn (lineAt (readAt (tileAt (now (tile .entry)) .rows) (now (recs .entry)) total) l) (l .down) q p (p .limit) from (view s) ⌝ }
 {
     let mut t = s;
@@ -130,7 +130,7 @@ fn scan_from(
     s: Found,
 ) -> Scan
     requires { ⌜ Room (length (now tile)) (length (now recs)) total l × Fair (s .count) (heft (live s)) p × Sized (l .down) k ⌝ }
-    ensures { λ r. ⌜ (r .found .count ≤ 8) × (heft (live (r .found)) ≤ heft (live s) + 512) ⌝ }
+    ensures { λ r. ⌜ (r .found .count ≤ 8) × (heft (live (r .found)) ≤ heft (live s) + 512) × (r .reach ≤ 16) ⌝ }
     ensures { λ r. ⌜ outcome r ≡ scanFrom (lineAt (readAt (tileAt (now (tile .entry)) .rows) (now (recs .entry)) total) l) (l .down) q p k (view s) ⌝ }
 {
     let n = k.along(l.down);
@@ -160,7 +160,7 @@ pub fn scan_line(
     s: Found,
 ) -> Scan
     requires { ⌜ Room (length (now tile)) (length (now recs)) total l × Fair (s .count) (heft (live s)) p ⌝ }
-    ensures { λ r. ⌜ (r .found .count ≤ 8) × (heft (live (r .found)) ≤ heft (live s) + 512) ⌝ }
+    ensures { λ r. ⌜ (r .found .count ≤ 8) × (heft (live (r .found)) ≤ heft (live s) + 512) × (r .reach ≤ 16) ⌝ }
     ensures { λ r. ⌜ outcome r ≡ scanOf (lineAt (readAt (tileAt (now (tile .entry)) .rows) (now (recs .entry)) total) l) (l .down) q p (view s) ⌝ }
 {
     match neighbour_at(tile, recs, total, l, 0) {

@@ -4,7 +4,7 @@ use Prim.Native.Nat.{_≤_}
 use native.Mathlib.Omega.{arith}
 use borrow.Author.Tests.{lt-ltb, le-ltb}
 use Rattle.spatial.specs.Scan.{outcome, scanFrom}
-use Rattle.spatial.proofs.Scans.{product-le}
+use Rattle.spatial.proofs.Scans.{weight-le, product-le}
 use borrow.Author.Needs.{needs}
 use Rattle.spatial.proofs.scan.scan_from.Statement.{statement}
 use Rattle.spatial.proofs.scan.scan_from.Tie as tie
@@ -37,7 +37,7 @@ returns c =
     let t = c .before .add-spatial .ensures in
     let n = c .before .before .before .before .before .along .ensures in
     let h = c .before .before .larger .ensures in (
-      (s .0 .0, omega (arith, s .0 .1, t .2, h, n)),
+      (s .0 .0, omega (arith, s .0 .1, t .2, h, n), s .0 .2),
       rw (← n, lt-ltb _ _ (c .before .before .before .if1 .taken), ← h, ← t .1) (s .1),
     )
 
@@ -74,8 +74,9 @@ returns-2 c =
     let f = c .before .before .before .before .before .before .before .before .before in
     let t = c .add-spatial2 .ensures in
     let w = c .before .before .weigh .ensures in
-    let m : c .before .larger2 .result ≤ 32 = omega arith in (
-      (t .0, omega (arith, t .2, product-le (f .args .p) (c .before .before .before .across .result) (search needs) m w)),
+    let m : c .before .larger2 .result ≤ 32 = omega arith in
+    let k : c .before .before .weigh .result ≤ 6 = rw w (weight-le (f .args .p) (c .before .before .before .across .result) (search needs)) in (
+      (t .0, omega (arith, t .2, product-le (f .args .p) (c .before .before .before .across .result) (search needs) m w), omega (arith, k)),
       rw (← c .before .before .before .before .before .before .along .ensures, le-ltb _ _ (c .before .before .before .before .if1 .left), ← c .before .before .before .across .ensures, ← w, ← c .before .larger2 .ensures, ← t .1),
     )
 

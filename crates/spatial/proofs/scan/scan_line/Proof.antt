@@ -1,6 +1,7 @@
 -- `spatial::scan::scan_line` meets its contract.
 -- Assumes nothing.
 use native.Mathlib.Omega.{arith}
+use lib.Dec.{lit≤}
 use denote.Ref.{now}
 use Rattle.layout.specs.TileBytes.{tileAt}
 use Rattle.neighbours.proofs.Known.{told-line, is-known, is-some}
@@ -35,7 +36,7 @@ returns c =
     let e = c .before .before .before .neighbour-at .ensures in
     let n = c .before .n .given .1 in
     let s = is-some (told-line (tileAt (now (a .tile)) .rows) (now (a .recs)) (a .total) (a .l) 0) e n in
-    ((search needs, omega arith), rw (← e, n) (not-found _ s))
+    ((search needs, omega arith, lit≤ tt), rw (← e, n) (not-found _ s))
 
 returns-2 : tie.Need-returns-2
 unfolding scanOf

@@ -3,6 +3,7 @@
 use mathlib.Core.Path.{refl, sym, _∙_}
 use Prim.Native.Nat.{_+_, _-_, _*_, _≤_}
 use native.Mathlib.Omega.{arith}
+use lib.Dec.{lit≤}
 use borrow.Author.Needs.{needs}
 use denote.Ref.{now}
 use Rattle.stack.specs.Stack.{live, view, heft}
@@ -42,7 +43,7 @@ returns c =
     let f = l .before .before .before .pre .1 in
     let e = m .next-at .ensures in
     let g = c .before .n .given .1 in
-    ((i .0, omega (arith, i .1, i .2)), not-found _ (some-refusal (i .3) f e g) ∙ sym (refuses (i .3) f e (m .before .if1 .taken) g))
+    ((i .0, omega (arith, i .1, i .2), lit≤ tt), not-found _ (some-refusal (i .3) f e g) ∙ sym (refuses (i .3) f e (m .before .if1 .taken) g))
 
 enum-known-k : tie.Need-enum-known-k Inv-loop μ-loop
 enum-known-k c = search needs
@@ -94,7 +95,7 @@ returns-2 : tie.Need-returns-2 Inv-loop μ-loop
 unfolding outcome
 returns-2 c =
     let i = c .before .before .loop .inv in
-    ((i .0, omega (arith, i .1, i .2)), sym (ends (i .3) (c .if1 .left)))
+    ((i .0, omega (arith, i .1, i .2), lit≤ tt), sym (ends (i .3) (c .if1 .left)))
 
 pub scan-on-spec : {M : Type 1} → statement M
 scan-on-spec =
