@@ -1,0 +1,88 @@
+-- What a scan's answer makes of it, and of what it ends.
+-- Assumes nothing.
+use mathlib.Core.Path.{_≡_, refl, _∙_, ap}
+use mathlib.Core.Bool.{Bool, true, false}
+use Prim.Native.Nat.{ℕ, _+_, _≤_, _<_}
+use lib.Dec.{eqb}
+use borrow.Author.Tests.{eq-eqb, ne-eqb, lt-leb, le-ltb}
+use Rattle.ground.specs.Pick.{pick}
+use Rattle.site.specs.declared.block.Site.{Site}
+use Rattle.site.specs.Site.{depthOf}
+use Rattle.stack.specs.declared.candidate.Found.{Found}
+use Rattle.stack.specs.Stack.{State, live, view, heft}
+use Rattle.neighbours.specs.declared.read.Line.{Line}
+use Rattle.neighbours.specs.declared.read.Read.{Read}
+use Rattle.neighbours.specs.declared.want.Want.{Want}
+use Rattle.neighbours.specs.Neighbour.{lineAt}
+use Rattle.spatial.specs.declared.scan.Scan.{Scan}
+use Rattle.spatial.specs.declared.scan.Span.{Span}
+use Rattle.spatial.specs.Scan.{Outcome, outcome, found, scanOf}
+use Rattle.spatial.specs.Scan as scans
+use Rattle.around.specs.declared.near.Around.{Around}
+use Rattle.around.specs.Lines.{nearLine, farLine, nearSpan, farSpan}
+use Rattle.around.specs.Around.{Went, refused, on, went, onScan, nearOf, farther, farOf}
+use Rattle.around.proofs.Places.{near-down, far-down}
+
+-- nothing that was found weighs nothing
+pub no-heft : (s : Found) → s .count ≡ 0 → heft (live s) ≡ 0
+unfolding live heft
+no-heft s e = rw e
+
+-- what `around_by` makes of a scan
+abbrev pub by : Scan → ℕ → ℕ → Around
+by r above left = record { found = r .found; answer = r .answer; above = above; left = left }
+
+-- a scan, and what has gone before, goes on or is refused
+module _ (r : Scan) where
+  pub goes-on : r .answer ≡ 0 → outcome r ≡ found (view (r .found)) (r .reach)
+  unfolding outcome
+  goes-on e = rw (eq-eqb (r .answer) 0 e)
+
+  pub stops : (r .answer ≡ 0 → ⊥) → outcome r ≡ scans.refused (r .answer)
+  unfolding outcome
+  stops n = rw (ne-eqb (r .answer) 0 n)
+
+module _ (a : Around) where
+  pub went-on : a .answer ≡ 0 → went a ≡ on (view (a .found)) (a .above) (a .left)
+  unfolding went
+  went-on e = rw (eq-eqb (a .answer) 0 e)
+
+  pub went-not : (a .answer ≡ 0 → ⊥) → went a ≡ refused (a .answer)
+  unfolding went
+  went-not n = rw (ne-eqb (a .answer) 0 n)
+
+-- the last scan, whatever its answer
+pub ends : (r : Scan) (above left : ℕ) (f : State → ℕ → Went) → on (view (r .found)) above left ≡ f (view (r .found)) (r .reach)
+    → went (by r above left) ≡ onScan (outcome r) f
+unfolding outcome went
+ends r above left f e = cases (eqb (r .answer) 0)
+  where
+    cases : (t : Bool)
+        → pick t (on (view (r .found)) above left) (refused (r .answer))
+        ≡ onScan (pick t (found (view (r .found)) (r .reach)) (scans.refused (r .answer))) f
+    cases true = e
+    cases false = refl
+
+-- a scan's reach goes on top of that of the nearer lines
+pub reaches : (r : Scan) (reach : ℕ)
+    → outcome (record { found = r .found; answer = r .answer; reach = reach + r .reach }) ≡ farther reach (outcome r)
+unfolding outcome
+reaches r reach = cases (eqb (r .answer) 0)
+  where
+    cases : (t : Bool)
+        → pick t (found (view (r .found)) (reach + r .reach)) (scans.refused (r .answer))
+        ≡ farther reach (pick t (found (view (r .found)) (r .reach)) (scans.refused (r .answer)))
+    cases true = refl
+    cases false = refl
+
+-- a side's line, scanned where there is one
+module _ (read : ℕ → ℕ → Read) (b : Site) (down : Bool) (q : Want) (s : State) {l : Line} {p : Span} {o : Outcome} (e : o ≡ scanOf (lineAt read l) (l .down) q p s) where
+  pub near-is : l ≡ nearLine down b → p ≡ nearSpan down b → (depthOf down b ≡ 0 → ⊥) → o ≡ nearOf read b down q s
+  unfolding nearOf
+  near-is i j n = e ∙ rw (i, j, near-down down b, ne-eqb (depthOf down b) 0 n)
+
+  pub far-is : {n reach : ℕ} → l ≡ farLine down b n → p ≡ farSpan down b n → reach < n → n ≤ depthOf down b
+      → farther reach o ≡ farOf read b down n reach q s
+  unfolding farOf
+  far-is {n} {reach} i j h k =
+      ap (farther reach) e ∙ rw (i, j, far-down down b n, lt-leb n reach h, le-ltb (depthOf down b) n k)

@@ -1,0 +1,56 @@
+-- `around::near::scan_near` meets its contract.
+-- Assumes nothing.
+use mathlib.Core.Path.{_∙_}
+use native.Mathlib.Omega.{arith}
+use denote.Ref.{now}
+use lib.Dec.{lit≤}
+use borrow.Author.Tests.{eq-eqb}
+use Rattle.layout.specs.TileBytes.{tileAt}
+use Rattle.neighbours.specs.Neighbour.{readAt}
+use Rattle.spatial.specs.Scan.{outcome}
+use Rattle.stack.specs.Stack.{view}
+use Rattle.around.specs.Around.{nearOf}
+use Rattle.around.proofs.Places.{near-room, near-fair}
+use Rattle.around.proofs.Steps.{near-is}
+use borrow.Author.Needs.{needs}
+use Rattle.around.proofs.near.scan_near.Statement.{statement}
+use Rattle.around.proofs.near.scan_near.Tie as tie
+
+depth-requires : tie.Need-depth-requires
+depth-requires c κs = search needs
+
+returns : tie.Need-returns
+unfolding nearOf outcome
+returns c = ((c .before .before .before .before .pre .2 .room, omega arith, lit≤ tt), rw (← c .before .depth .ensures, eq-eqb _ _ (c .if1 .taken)))
+
+near-line-requires : tie.Need-near-line-requires
+near-line-requires c κs = search needs
+
+near-span-requires : tie.Need-near-span-requires
+near-span-requires c κs = search needs
+
+scan-line-requires : tie.Need-scan-line-requires
+scan-line-requires c κs =
+    let f = c .before .before .before .before .before .before in
+    let a = f .args in
+    (rw (c .before .near-line .ensures) (near-room (f .pre .0) (a .b) (f .pre .1) (a .down)), rw (c .near-span .ensures) (near-fair (f .pre .2 .room) (omega (arith, f .pre .2 .light)) (a .b) (f .pre .1) (a .down)))
+
+returns-2 : tie.Need-returns-2
+returns-2 c =
+    let a = c .before .before .before .before .before .before .before .args in
+    let r = c .scan-line .ensures in (
+      r .0,
+      near-is (readAt (tileAt (now (a .tile)) .rows) (now (a .recs)) (a .total)) (a .b) (a .down) (a .q) (view (a .s)) (r .1) (c .before .before .near-line .ensures) (c .before .near-span .ensures)
+          (λ z. c .before .before .before .if1 .left (c .before .before .before .before .depth .ensures ∙ z)),
+    )
+
+pub scan-near-spec : {M : Type 1} → statement M
+scan-near-spec =
+    tie.close
+    (tie.spec
+    depth-requires
+    returns
+    near-line-requires
+    near-span-requires
+    scan-line-requires
+    returns-2)

@@ -1,0 +1,125 @@
+// What lies farther off: the point above left, then the second and the third line of either side.
+use crate::lines::far_line;
+use crate::lines::far_span;
+use crate::near::Around;
+use crate::near::around_by;
+use crate::near::point_where;
+use neighbours::want::Want;
+use site::block::Site;
+use spatial::scan::Scan;
+use spatial::scan::scan_line;
+use stack::candidate::Found;
+ghost use mathlib.Core.Path.{_≡_};
+ghost use Prim.Native.Nat.{_+_, _-_, _^_, _≤_, _<_};
+ghost use lib.ListN.{length};
+ghost use Rattle.layout.specs.TileBytes.{tileAt};
+ghost use Rattle.neighbours.specs.Neighbour.{readAt};
+ghost use Rattle.spatial.specs.Scan.{outcome};
+ghost use Rattle.stack.specs.Stack.{live, view, heft};
+ghost use Rattle.site.specs.Site.{Placed};
+ghost use Rattle.around.specs.Around.{went, farOf, hasLeft, roundOf, farAll, Lent, Light};
+
+// Line n of a side, unless a neighbour of a nearer line stood for it: reach is how many lines the
+// scans of the side stand for, before and after. Each part of `far` leaves the next one room for its
+// weights.
+fn scan_far(
+    tile: &[u8],
+    recs: &[u8],
+    total: usize,
+    b: Site,
+    down: bool,
+    n: usize,
+    reach: usize,
+    q: Want,
+    s: Found,
+) -> Scan
+    requires { ⌜ Lent (length (now tile)) (length (now recs)) total × Placed b × (s .count ≤ 8) × (heft (live s) < 2 ^ 26) × (2 ≤ n) × (n ≤ 3) × (reach ≤ 64) ⌝ }
+    ensures { λ r. ⌜ (r .found .count ≤ 8) × (heft (live (r .found)) ≤ heft (live s) + 512) × (r .reach ≤ reach + 16) ⌝ }
+    ensures { λ r. ⌜ outcome r ≡ farOf (readAt (tileAt (now (tile .entry)) .rows) (now (recs .entry)) total) b down n reach q (view s) ⌝ }
+{
+    let none = Scan {
+        found: s,
+        answer: 0,
+        reach,
+    };
+    if n <= reach {
+        return none;
+    }
+    if b.depth(down) < n {
+        return none;
+    }
+    let r = scan_line(
+        tile,
+        recs,
+        total,
+        far_line(b, down, n),
+        q,
+        far_span(b, down, n),
+        s,
+    );
+    let found = r.found;
+    Scan {
+        found,
+        answer: r.answer,
+        reach: reach + r.reach,
+    }
+}
+
+// Line n of both sides.
+fn round(tile: &[u8], recs: &[u8], total: usize, b: Site, n: usize, q: Want, a: Around) -> Around
+    requires { ⌜ Lent (length (now tile)) (length (now recs)) total × Placed b × (a .found .count ≤ 8) × (heft (live (a .found)) < 2 ^ 25) × (2 ≤ n) × (n ≤ 3) × (a .above ≤ 32) × (a .left ≤ 32) ⌝ }
+    ensures { λ r. ⌜ (r .found .count ≤ 8) × (heft (live (r .found)) ≤ heft (live (a .found)) + 1024) × (r .above ≤ a .above + 16) × (r .left ≤ a .left + 16) ⌝ }
+    ensures { λ r. ⌜ went r ≡ roundOf (readAt (tileAt (now (tile .entry)) .rows) (now (recs .entry)) total) b n q (went a) ⌝ }
+{
+    if a.answer != 0 {
+        return a;
+    }
+    let row = scan_far(tile, recs, total, b, false, n, a.above, q, a.found);
+    if row.answer != 0 {
+        return around_by(row, 0, 0);
+    }
+    let column = scan_far(tile, recs, total, b, true, n, a.left, q, row.found);
+    around_by(column, row.reach, column.reach)
+}
+
+// The point above left needs both a row above and a column to the left.
+fn has_left(b: Site) -> bool
+    requires { ⌜ Placed b ⌝ }
+    ensures { λ r. ⌜ r ≡ hasLeft b ⌝ }
+{
+    if b.depth(false) == 0 {
+        return false;
+    }
+    b.depth(true) != 0
+}
+
+// The column to the left of the block, where there is one.
+fn before(b: Site) -> usize
+    ensures { λ r. ⌜ r ≡ b .x .0 - 1 ⌝ }
+{
+    if b.x.0 == 0 {
+        return 0;
+    }
+    b.x.0 - 1
+}
+
+// above and left are what `near` gave.
+pub fn far(
+    tile: &[u8],
+    recs: &[u8],
+    total: usize,
+    b: Site,
+    above: usize,
+    left: usize,
+    q: Want,
+    s: Found,
+) -> Around
+    requires { ⌜ Lent (length (now tile)) (length (now recs)) total × Placed b × Light (s .count) (heft (live s)) × (above ≤ 16) × (left ≤ 16) ⌝ }
+    ensures { λ r. ⌜ r .found .count ≤ 8 ⌝ }
+    ensures { λ r. ⌜ went r ≡ farAll (readAt (tileAt (now (tile .entry)) .rows) (now (recs .entry)) total) b above left q (view s) ⌝ }
+{
+    let corner = point_where(has_left(b), tile, recs, total, b, before(b), q, s);
+    let one = around_by(corner, above, left);
+    let two = round(tile, recs, total, b, 2, q, one);
+    round(tile, recs, total, b, 3, q, two)
+}
