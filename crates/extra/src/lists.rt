@@ -27,7 +27,7 @@ pub(crate) fn as_list(mv: Mv, reference: Ref) -> Listed
 }
 
 // A reference frame, and neither INTRA nor NONE.
-pub(crate) fn is_ref(r: Ref) -> bool
+pub fn is_ref(r: Ref) -> bool
     ensures { λ a. ⌜ a ≡ isRef r ⌝ }
 {
     r.from_to(1, 7)

@@ -1,0 +1,3 @@
+-- The laws of a search's front.
+pub mod Contexts
+pub mod Fronts
