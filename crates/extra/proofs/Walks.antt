@@ -8,7 +8,8 @@ use native.Mathlib.Nat.{lt-irrefl}
 use native.Mathlib.Omega.{arith}
 use lib.Dec.{eqb}
 use lib.ListN.{length}
-use borrow.Author.Tests.{lt-ltb, le-ltb, ne-eqb}
+use borrow.Author.Tests.{lt-ltb, le-ltb, eq-eqb, ne-eqb}
+use Rattle.ground.proofs.Picks.{pick-true, pick-false}
 use Rattle.cells.specs.declared.cell.Ref.{Ref}
 use Rattle.cells.specs.declared.block.RefPair.{RefPair}
 use Rattle.neighbours.specs.declared.read.Neighbour.{Neighbour}
@@ -21,7 +22,8 @@ use Rattle.neighbours.proofs.Known.{Known, is-known, is-some, told-line}
 use Rattle.stack.specs.Stack.{State}
 use Rattle.stack.specs.Answered.{Outcome, refused, found}
 use Rattle.extra.specs.Lists.{extendedBy}
-use Rattle.extra.specs.Pool.{Both, gatheredBy}
+use Rattle.extra.specs.declared.walk.Pooled.{Pooled}
+use Rattle.extra.specs.Pool.{Both, poolsOf, gatheredBy}
 use Rattle.extra.specs.Walk as walk
 
 -- the neighbours of a line, out of a tile's bytes and the records
@@ -88,3 +90,13 @@ module _ (nb : ℕ → Read) (down : Bool) (limit : ℕ) (biases : List ℕ) whe
     unfolding walk.compoundOn
     goes₂ k h e₁ e₂ l i (zero, f, e) = absurd (lt-irrefl x (omega arith))
     goes₂ k h e₁ e₂ l i (suc n, f, e) = (n, omega arith, rw l (rw (lt-ltb x limit h, ← e₁, e₂) at e))
+
+-- a compound search's answer says what was gathered: 0 with the pools, or a refusal
+module _ (a : Pooled) where
+  pub is-gathered : a .answer ≡ 0 → walk.pooled a ≡ walk.gathered (poolsOf (a .pools))
+  unfolding walk.pooled
+  is-gathered e = pick-true _ (eq-eqb _ _ e)
+
+  pub is-stopped : (a .answer ≡ 0 → ⊥) → walk.pooled a ≡ walk.refused (a .answer)
+  unfolding walk.pooled
+  is-stopped n = pick-false _ (ne-eqb _ _ n)

@@ -4,3 +4,4 @@ pub mod Counts
 pub mod Maps
 pub mod Moves
 pub mod Clips
+pub mod Answers

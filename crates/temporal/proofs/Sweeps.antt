@@ -7,9 +7,9 @@ use Prim.Native.Nat.{ℕ, zero, suc, _+_, _-_, _*_, _/_, _≤_, _<_}
 use native.Mathlib.Nat.{lt-irrefl, mul-le-mul, mul-le-mul-right}
 use native.Mathlib.Omega.{arith}
 use lib.Dec.{ltb, leb}
-use borrow.Author.Tests.{eq-eqb, ne-eqb, leb-true, ltb-true}
+use borrow.Author.Tests.{leb-true, ltb-true}
 use Rattle.ground.specs.Pick.{pick}
-use Rattle.ground.proofs.Picks.{pick-true, pick-false, both}
+use Rattle.ground.proofs.Picks.{both}
 use Rattle.cells.specs.declared.cell.Cell.{Cell}
 use Rattle.cells.specs.declared.block.MvPair.{MvPair}
 use Rattle.cells.specs.Cell.{cellAt, wellProjected, projectedAbsent}
@@ -24,16 +24,8 @@ use Rattle.temporal.specs.declared.sweep.Field.{Field}
 use Rattle.stack.specs.declared.candidate.Answered.{Answered}
 use Rattle.temporal.specs.Temporal.{cellRead, candidateOf}
 use Rattle.stack.specs.Answered.{Outcome, refused, found, outcome, onFound}
+use Rattle.stack.proofs.Answers.{is-found, is-refused}
 use Rattle.temporal.specs.Sweep.{cellSwept, visitOf, inRow, inGrid, whereOf, cellsAlong, hasCorners, cellOf, Fielded}
-
--- a result with the answer 0, and one with a refusal
-pub is-found : (r : Answered) → r .answer ≡ 0 → outcome r ≡ found (view (r .found))
-unfolding outcome
-is-found r e = pick-true _ (eq-eqb _ _ e)
-
-pub is-refused : (r : Answered) → (r .answer ≡ 0 → ⊥) → outcome r ≡ refused (r .answer)
-unfolding outcome
-is-refused r n = pick-false _ (ne-eqb _ _ n)
 
 -- a refusal's number is not 0
 read-refused : (l : List ℕ) (total i n : ℕ) → cellRead l total i ≡ Refused n → 1 ≤ n

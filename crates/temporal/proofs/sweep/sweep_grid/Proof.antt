@@ -7,7 +7,8 @@ use denote.Ref.{now}
 use Rattle.stack.specs.Stack.{live, view, heft}
 use Rattle.temporal.specs.Temporal.{cellRead}
 use Rattle.temporal.specs.Sweep.{inGrid}
-use Rattle.temporal.proofs.Sweeps.{is-found, is-refused, grid-turns, turns-end, turns-refused, turns-on}
+use Rattle.stack.proofs.Answers.{is-found, is-refused}
+use Rattle.temporal.proofs.Sweeps.{grid-turns, turns-end, turns-refused, turns-on}
 use Rattle.temporal.proofs.sweep.sweep_grid.Statement.{statement}
 use Rattle.temporal.proofs.sweep.sweep_grid.Tie as tie
 

@@ -6,7 +6,8 @@ use native.Mathlib.Omega.{arith}
 use Rattle.stack.specs.Stack.{live, view, heft}
 use Rattle.temporal.specs.Temporal.{cellRead}
 use Rattle.temporal.specs.Sweep.{inRow}
-use Rattle.temporal.proofs.Sweeps.{is-found, is-refused, row-turns, turns-end, turns-refused, turns-on}
+use Rattle.stack.proofs.Answers.{is-found, is-refused}
+use Rattle.temporal.proofs.Sweeps.{row-turns, turns-end, turns-refused, turns-on}
 use Rattle.temporal.proofs.sweep.sweep_row.Statement.{statement}
 use Rattle.temporal.proofs.sweep.sweep_row.Tie as tie
 

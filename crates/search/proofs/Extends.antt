@@ -1,0 +1,101 @@
+-- The extra search over a block's two sides: what a walk may be asked for, and what its answers make of the whole.
+-- Assumes nothing.
+use mathlib.Core.Path.{_≡_, refl, _∙_}
+use mathlib.Core.Bool.{Bool, true, false}
+use mathlib.Core.List.{List}
+use Prim.Native.Nat.{ℕ, _≤_, _<_}
+use lib.ListN.{length}
+use borrow.Author.Tests.{ne-eqb, le-leb, lt-leb}
+use Rattle.cells.specs.declared.cell.Ref.{Ref}
+use Rattle.cells.specs.declared.block.MvPair.{MvPair}
+use Rattle.cells.specs.declared.block.RefPair.{RefPair}
+use Rattle.frame.specs.declared.record.Frame.{Frame}
+use Rattle.site.specs.declared.block.Site.{Site}
+use Rattle.site.specs.Site.{depthOf, Placed}
+use Rattle.neighbours.specs.declared.read.Line.{Line}
+use Rattle.neighbours.specs.declared.read.Read.{Read}
+use Rattle.neighbours.specs.Neighbour.{lineAt}
+use Rattle.around.specs.Lines.{nearLine}
+use Rattle.around.specs.Around.{Lent}
+use Rattle.around.proofs.Places.{near-down, near-room}
+use Rattle.stack.specs.declared.candidate.Answered.{Answered}
+use Rattle.stack.specs.declared.candidate.Found.{Found}
+use Rattle.stack.specs.Stack.{State, live, view}
+use Rattle.stack.specs.Answered.{Outcome, outcome}
+use Rattle.stack.proofs.Answers.{is-found, is-refused}
+use Rattle.extra.specs.declared.walk.Pooled.{Pooled}
+use Rattle.extra.specs.Lists.{isRef}
+use Rattle.extra.specs.Pool.{Both, poolsOf, nothing, pairAt, completed}
+use Rattle.extra.specs.Walk.{Gathering, pooled, singleOn, compoundOn}
+use Rattle.extra.specs.Walk as walks
+use Rattle.extra.proofs.Walks.{is-gathered, is-stopped}
+use Rattle.search.specs.Extend.{biasesOf, extraLimit, singleWhere, singleExtra, compoundWhere, compoundExtra, extraOf}
+
+-- there are seven sign biases
+pub biases-seven : {l : List ℕ} (f : Frame) → l ≡ biasesOf f → length l ≡ 7
+unfolding biasesOf
+biases-seven f e = rw e
+
+-- a side's line is one that a walk may go along
+pub near-lent : {ntile nrecs total limit : ℕ} {l : Line} (down : Bool) (b : Site) → Lent ntile nrecs total → Placed b → l ≡ nearLine down b → limit ≤ 16
+    → walks.Lent ntile nrecs total l limit
+near-lent down b h p e s =
+    let r = near-room h b p down in
+    rw e (record { tile = r .tile; recs = r .recs; entry = r .entry; col = r .col; short = s })
+
+-- a side that isn't at the tile's edge
+module _ (read : ℕ → ℕ → Read) (b : Site) (down : Bool) (biases : List ℕ) {l : Line} {limit : ℕ} (i : l ≡ nearLine down b) (j : limit ≡ extraLimit b) (n : depthOf down b ≡ 0 → ⊥) where
+  pub single-is : {o : Outcome} (r : Ref) (s : State) → o ≡ singleOn (lineAt read l) (l .down) limit biases r limit 0 s → o ≡ singleWhere read b down biases r s
+  unfolding singleWhere
+  single-is r s e = e ∙ rw (i, j, near-down down b, ne-eqb (depthOf down b) 0 n)
+
+  pub compound-is : {o : Gathering} (refs : RefPair) (p : Both) → o ≡ compoundOn (lineAt read l) (l .down) limit biases refs limit 0 p → o ≡ compoundWhere read b down biases refs p
+  unfolding compoundWhere
+  compound-is refs p e = e ∙ rw (i, j, near-down down b, ne-eqb (depthOf down b) 0 n)
+
+-- the returns of `single_extra`
+module _ (read : ℕ → ℕ → Read) (b : Site) (biases : List ℕ) (r : Ref) (s : State) (above : Answered) (e : outcome above ≡ singleWhere read b false biases r s) where
+  pub single-stops : (above .answer ≡ 0 → ⊥) → outcome above ≡ singleExtra read b biases r s
+  unfolding singleExtra
+  single-stops n = rw (← e, is-refused above n)
+
+  pub single-ends : {o : Outcome} → above .answer ≡ 0 → o ≡ singleWhere read b true biases r (view (above .found)) → o ≡ singleExtra read b biases r s
+  unfolding singleExtra
+  single-ends z d = rw (← e, is-found above z) d
+
+-- those of `compound_extra`
+module _ (read : ℕ → ℕ → Read) (b : Site) (biases : List ℕ) (refs : RefPair) (g : MvPair) (s : Found) {p : Both} (k : p ≡ nothing) (above : Pooled) (e : pooled above ≡ compoundWhere read b false biases refs p) where
+  pub compound-stops : (above .answer ≡ 0 → ⊥) → outcome (record { found = s; answer = above .answer }) ≡ compoundExtra read b biases refs g (view s)
+  unfolding compoundExtra
+  compound-stops n = rw (← k, ← e, is-stopped above n) (is-refused (record { found = s; answer = above .answer }) n)
+
+  module _ (z : above .answer ≡ 0) (both : Pooled) (d : pooled both ≡ compoundWhere read b true biases refs (poolsOf (above .pools))) where
+    pub compound-stops₂ : (both .answer ≡ 0 → ⊥) → outcome (record { found = s; answer = both .answer }) ≡ compoundExtra read b biases refs g (view s)
+    unfolding compoundExtra
+    compound-stops₂ n = rw (← k, ← e, is-gathered above z, ← d, is-stopped both n) (is-refused (record { found = s; answer = both .answer }) n)
+
+    pub compound-ends : {one two : MvPair} (t : Found) → both .answer ≡ 0 → one ≡ pairAt (poolsOf (both .pools)) g 0 → two ≡ pairAt (poolsOf (both .pools)) g 1
+        → view t ≡ completed one two (view s) → outcome (record { found = t; answer = 0 }) ≡ compoundExtra read b biases refs g (view s)
+    unfolding compoundExtra
+    compound-ends t y q v w =
+        rw (← k, ← e, is-gathered above z, ← d, is-gathered both y, ← q, ← v, ← w) (is-found (record { found = t; answer = 0 }) refl)
+
+-- and those of `extend`
+module _ (read : ℕ → ℕ → Read) (b : Site) (biases : List ℕ) (refs : RefPair) (g : MvPair) (s : Found) (n : length (live s) ≡ s .count) where
+  pub extra-enough : 2 ≤ s .count → outcome (record { found = s; answer = 0 }) ≡ extraOf read b biases refs g (view s)
+  unfolding view extraOf
+  extra-enough h = rw (n, le-leb 2 (s .count) h) (is-found (record { found = s; answer = 0 }) refl)
+
+  module _ (h : s .count < 2) where
+    pub extra-none : isRef (refs .first) ≡ false → outcome (record { found = s; answer = 0 }) ≡ extraOf read b biases refs g (view s)
+    unfolding view extraOf
+    extra-none e = rw (n, lt-leb 2 (s .count) h, e) (is-found (record { found = s; answer = 0 }) refl)
+
+    module _ {o : Outcome} (e : isRef (refs .first) ≡ true) where
+      pub extra-compound : isRef (refs .second) ≡ true → o ≡ compoundExtra read b biases refs g (view s) → o ≡ extraOf read b biases refs g (view s)
+      unfolding view extraOf
+      extra-compound d i = rw (n, lt-leb 2 (s .count) h, e, d) i
+
+      pub extra-single : isRef (refs .second) ≡ false → o ≡ singleExtra read b biases (refs .first) (view s) → o ≡ extraOf read b biases refs g (view s)
+      unfolding view extraOf
+      extra-single d i = rw (n, lt-leb 2 (s .count) h, e, d) i

@@ -1,0 +1,4 @@
+-- The laws of a search.
+pub mod Temporals
+pub mod Extends
+pub mod Finds

@@ -1,0 +1,109 @@
+-- The motion vector prediction processes in their order (7.10.2), from the front of a search to its answer.
+use Prim.Native.Nat.{ℕ, _+_, _-_, _*_, _≤_}
+use mathlib.Core.Path.{_≡_}
+use mathlib.Core.Bool.{Bool, true, not}
+use mathlib.Core.List.{List}
+use lib.Dec.{eqb}
+use lib.ListN.{length}
+use Rattle.ground.specs.Pick.{pick}
+use Rattle.vector.specs.declared.mv.Mv.{Mv}
+use Rattle.frame.specs.declared.sizes.Sizes.{Sizes}
+use Rattle.frame.specs.declared.record.Frame.{Frame}
+use Rattle.frame.specs.Record.{wellFrame}
+use Rattle.frame.specs.Sizes.{records, projectedCells}
+use Rattle.rows.specs.declared.setup.Tile.{Tile}
+use Rattle.site.specs.declared.block.Site.{Site}
+use Rattle.site.specs.Site.{Placed}
+use Rattle.neighbours.specs.declared.read.Read.{Read}
+use Rattle.neighbours.specs.Neighbour.{readAt}
+use Rattle.around.specs.Around.{Went, nearAll, farAll}
+use Rattle.around.specs.Around as around
+use Rattle.stack.specs.declared.candidate.Candidate.{Candidate}
+use Rattle.stack.specs.declared.clamp.Reach.{Reach}
+use Rattle.stack.specs.Stack.{State, live, raised}
+use Rattle.stack.specs.Sort.{ordered}
+use Rattle.stack.specs.Clamp.{clamped}
+use Rattle.stack.specs.Answered.{Outcome}
+use Rattle.stack.specs.Answered as answered
+use Rattle.temporal.specs.declared.aim.CellRead.{CellRead}
+use Rattle.temporal.specs.Temporal.{cellRead}
+use Rattle.extra.specs.Lists.{isRef}
+use Rattle.front.specs.declared.ask.Ask.{Ask}
+use Rattle.search.specs.declared.find.Findings.{Findings}
+use Rattle.front.specs.Ask.{askable, findFront, wantOf, globalOf, siteOf}
+use Rattle.search.specs.Parts.{aimOf, fieldOf, temporalWhere, zeroWhere}
+use Rattle.search.specs.Extend.{biasesOf, extraOf}
+use Rattle.front.specs.Context.{matchesOf, contextOf}
+
+-- The candidates, the context, and the vector that a single search has in the slots below two that no candidate takes.
+pub record Finding : Type 0 where
+  pub context : ℕ
+  pub cands : List Candidate
+  pub fill : Mv
+
+pub data Result : Type 0 where
+  refused : ℕ → Result
+  got : Finding → Result
+
+unfoldable pub finding : Findings → Result
+finding r =
+    pick (eqb (r .answer) 0) (got (record { context = r .context; cands = live (r .found); fill = r .fill })) (refused (r .answer))
+
+-- a part of the search that is refused refuses all of it
+abbrev pub afterWent : Went → (State → ℕ → ℕ → Result) → Result
+afterWent (around.refused n) f = refused n
+afterWent (around.on s above left) f = f s above left
+
+abbrev pub afterFound : Outcome → (State → Result) → Result
+afterFound (answered.refused n) f = refused n
+afterFound (answered.found s) f = f s
+
+-- how far a vector may point: four units and the block's own size past the frame's near edges, four units past its far ones (MV_BORDER)
+unfoldable pub reachOf : Sizes → Site → Reach
+reachOf z b =
+    record {
+      up = 32 * (b .y .0 + b .h .0 + 4);
+      down = 32 * (z .ih4 .0 - b .y .0 + 4);
+      left = 32 * (b .x .0 + b .w .0 + 4);
+      right = 32 * (z .iw4 .0 - b .x .0 + 4);
+    }
+
+-- Sorting, the extra search, context and clamping. `near` is what the near neighbours found, `all` what all of them did, `still` the zero-motion context.
+unfoldable pub concluded : (ℕ → ℕ → Read) → Frame → Tile → Ask → ℕ → (near all : State) → Result
+concluded read f t a still near all =
+    afterFound (extraOf read (siteOf t a) (biasesOf f) (a .refs) (globalOf a) (ordered (length (near .cands)) all)) (λ s.
+    got
+    (record {
+      context = contextOf (isRef (a .refs .second)) (matchesOf near) (matchesOf all) (near .newmv) still;
+      cands = clamped (reachOf (f .sizes) (siteOf t a)) s .cands;
+      fill = globalOf a .first;
+    }))
+
+abbrev pub timed : Frame → Bool
+timed f = not (eqb (f .«use_ref_frame_mvs») 0)
+
+-- From the near neighbours on: each of their candidates gains 640; the temporal process; the point above left and the far lines.
+unfoldable pub goneOn : (ℕ → ℕ → Read) → (ℕ → CellRead) → Frame → Tile → Ask → State → (above left : ℕ) → Result
+goneOn read cells f t a s above left =
+    afterFound (temporalWhere (timed f) cells (aimOf f a) (fieldOf (f .sizes) t (siteOf t a)) (siteOf t a) (raised s)) (λ u.
+    afterWent (farAll read (siteOf t a) above left (wantOf a) u) (λ v r c.
+    concluded read f t a (zeroWhere (timed f) cells (aimOf f a) (fieldOf (f .sizes) t (siteOf t a)) (f .temporal)) s v))
+
+unfoldable pub searchOf : (ℕ → ℕ → Read) → (ℕ → CellRead) → Frame → Tile → Ask → Result
+searchOf read cells f t a =
+    afterWent (nearAll read (siteOf t a) (eqb (a .decoded) 1) (wantOf a)) (goneOn read cells f t a)
+
+-- what is refused before anything is read, then the search over the lent records and cells
+unfoldable pub findOf : Frame → Tile → (recs proj : List ℕ) → Ask → Result
+findOf f t recs proj a =
+    pick (eqb (findFront f t a (length recs) (length proj)) 0)
+    (searchOf (readAt (t .rows) recs (records (f .sizes))) (cellRead proj (projectedCells (f .sizes))) f t a)
+    (refused (findFront f t a (length recs) (length proj)))
+
+-- What the front has shown once it is passed.
+pub record Past (f : Frame) (t : Tile) (a : Ask) (nframe ntile nrecs : ℕ) : Type 0 where
+  pub frame : 109 ≤ nframe
+  pub tile : 168 ≤ ntile
+  pub well : wellFrame f ≡ true
+  pub asked : askable (f .sizes) (t .col) (t .row) (f .«use_ref_frame_mvs») a ≡ true
+  pub listed : 12 * records (f .sizes) ≤ nrecs

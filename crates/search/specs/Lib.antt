@@ -1,0 +1,4 @@
+-- The candidate search (7.10.2): its parts in the standard's order, and its answer.
+pub mod Parts
+pub mod Extend
+pub mod Find

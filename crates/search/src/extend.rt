@@ -1,0 +1,211 @@
+// The extra search over a block's two sides.
+use around::lines::near_line;
+use cells::block::MvPair;
+use cells::block::RefPair;
+use cells::cell::Ref;
+use extra::lists::is_ref;
+use extra::pool::Pools;
+use extra::pool::complete;
+use extra::pool::first_pair;
+use extra::pool::no_pools;
+use extra::pool::second_pair;
+use extra::walk::Pooled;
+use extra::walk::compound_along;
+use extra::walk::single_along;
+use layout::frame_bytes::hint_in;
+use rows::setup::lesser;
+use site::block::Site;
+use stack::candidate::Answered;
+use stack::candidate::Found;
+ghost use mathlib.Core.Path.{_≡_};
+ghost use mathlib.Core.Bool.{true};
+ghost use Prim.Native.Nat.{_≤_, _<_};
+ghost use lib.ListN.{length};
+ghost use Rattle.around.specs.Around.{Lent};
+ghost use Rattle.extra.specs.Lists.{isRef};
+ghost use Rattle.extra.specs.Pool.{poolsOf};
+ghost use Rattle.extra.specs.Walk.{pooled};
+ghost use Rattle.layout.specs.FrameBytes.{frameAt};
+ghost use Rattle.layout.specs.TileBytes.{tileAt};
+ghost use Rattle.neighbours.specs.Neighbour.{readAt};
+ghost use Rattle.site.specs.Site.{Placed};
+ghost use Rattle.stack.specs.Stack.{view};
+ghost use Rattle.stack.specs.Answered.{outcome};
+ghost use Rattle.search.specs.Extend.{biasAt, biasesOf, extraLimit, singleWhere, singleExtra, compoundWhere, compoundExtra, extraOf};
+
+fn bias_at(frame: &[u8], i: usize) -> u8
+    requires { ⌜ (109 ≤ length (now frame)) × (i < 7) ⌝ }
+    ensures { λ r. ⌜ r ≡ biasAt (frameAt (now (frame .entry))) i ⌝ }
+{
+    let hint = hint_in(frame, i);
+    hint.sign_bias
+}
+
+fn biases_of(frame: &[u8]) -> [u8; 7]
+    requires { ⌜ 109 ≤ length (now frame) ⌝ }
+    ensures { λ r. ⌜ r ≡ biasesOf (frameAt (now (frame .entry))) ⌝ }
+{
+    [
+        bias_at(frame, 0),
+        bias_at(frame, 1),
+        bias_at(frame, 2),
+        bias_at(frame, 3),
+        bias_at(frame, 4),
+        bias_at(frame, 5),
+        bias_at(frame, 6),
+    ]
+}
+
+// Neither side is looked along farther than the other.
+fn extra_limit(b: Site) -> usize
+    requires { ⌜ Placed b ⌝ }
+    ensures { λ r. ⌜ (r ≡ extraLimit b) × (r ≤ 16) ⌝ }
+{
+    lesser(b.limit(false), b.limit(true))
+}
+
+// One side of a single search; nothing at the tile's edge.
+fn single_where(
+    tile: &[u8],
+    recs: &[u8],
+    total: usize,
+    b: Site,
+    down: bool,
+    biases: &[u8],
+    r: Ref,
+    s: Found,
+) -> Answered
+    requires { ⌜ Lent (length (now tile)) (length (now recs)) total × Placed b × (length (now biases) ≡ 7) × (isRef r ≡ true) × (s .count ≤ 3) ⌝ }
+    ensures { λ a. ⌜ a .found .count ≤ 3 ⌝ }
+    ensures { λ a. ⌜ outcome a ≡ singleWhere (readAt (tileAt (now (tile .entry)) .rows) (now (recs .entry)) total) b down (now (biases .entry)) r (view s) ⌝ }
+{
+    if b.depth(down) == 0 {
+        return Answered {
+            found: s,
+            answer: 0,
+        };
+    }
+    let limit = extra_limit(b);
+    single_along(tile, recs, total, near_line(b, down), limit, biases, r, s)
+}
+
+// Above, then to the left.
+fn single_extra(
+    tile: &[u8],
+    recs: &[u8],
+    total: usize,
+    b: Site,
+    biases: &[u8],
+    r: Ref,
+    s: Found,
+) -> Answered
+    requires { ⌜ Lent (length (now tile)) (length (now recs)) total × Placed b × (length (now biases) ≡ 7) × (isRef r ≡ true) × (s .count < 2) ⌝ }
+    ensures { λ a. ⌜ a .found .count ≤ 3 ⌝ }
+    ensures { λ a. ⌜ outcome a ≡ singleExtra (readAt (tileAt (now (tile .entry)) .rows) (now (recs .entry)) total) b (now (biases .entry)) r (view s) ⌝ }
+{
+    let above = single_where(tile, recs, total, b, false, biases, r, s);
+    if above.answer != 0 {
+        return above;
+    }
+    single_where(tile, recs, total, b, true, biases, r, above.found)
+}
+
+fn compound_where(
+    tile: &[u8],
+    recs: &[u8],
+    total: usize,
+    b: Site,
+    down: bool,
+    biases: &[u8],
+    refs: RefPair,
+    p: Pools,
+) -> Pooled
+    requires { ⌜ Lent (length (now tile)) (length (now recs)) total × Placed b × (length (now biases) ≡ 7) × (isRef (refs .first) ≡ true) × (isRef (refs .second) ≡ true) ⌝ }
+    ensures { λ a. ⌜ pooled a ≡ compoundWhere (readAt (tileAt (now (tile .entry)) .rows) (now (recs .entry)) total) b down (now (biases .entry)) refs (poolsOf p) ⌝ }
+{
+    if b.depth(down) == 0 {
+        return Pooled {
+            pools: p,
+            answer: 0,
+        };
+    }
+    let limit = extra_limit(b);
+    compound_along(
+        tile,
+        recs,
+        total,
+        near_line(b, down),
+        limit,
+        biases,
+        refs,
+        p,
+    )
+}
+
+// The two pairs that are gathered above, then to the left, with the global vectors behind them.
+fn compound_extra(
+    tile: &[u8],
+    recs: &[u8],
+    total: usize,
+    b: Site,
+    biases: &[u8],
+    refs: RefPair,
+    g: MvPair,
+    s: Found,
+) -> Answered
+    requires { ⌜ Lent (length (now tile)) (length (now recs)) total × Placed b × (length (now biases) ≡ 7) × (isRef (refs .first) ≡ true) × (isRef (refs .second) ≡ true) × (s .count < 2) ⌝ }
+    ensures { λ a. ⌜ a .found .count ≤ 3 ⌝ }
+    ensures { λ a. ⌜ outcome a ≡ compoundExtra (readAt (tileAt (now (tile .entry)) .rows) (now (recs .entry)) total) b (now (biases .entry)) refs g (view s) ⌝ }
+{
+    let above = compound_where(tile, recs, total, b, false, biases, refs, no_pools());
+    if above.answer != 0 {
+        return Answered {
+            found: s,
+            answer: above.answer,
+        };
+    }
+    let both = compound_where(tile, recs, total, b, true, biases, refs, above.pools);
+    if both.answer != 0 {
+        return Answered {
+            found: s,
+            answer: both.answer,
+        };
+    }
+    let pools = both.pools;
+    let first = first_pair(pools, g);
+    let second = second_pair(pools, g);
+    let found = complete(s, first, second);
+    Answered { found, answer: 0 }
+}
+
+// Only with fewer than two candidates; for INTRA there is none.
+pub(crate) fn extend(
+    frame: &[u8],
+    tile: &[u8],
+    recs: &[u8],
+    total: usize,
+    b: Site,
+    refs: RefPair,
+    g: MvPair,
+    s: Found,
+) -> Answered
+    requires { ⌜ Lent (length (now tile)) (length (now recs)) total × Placed b × (109 ≤ length (now frame)) × (s .count ≤ 8) ⌝ }
+    ensures { λ a. ⌜ a .found .count ≤ 8 ⌝ }
+    ensures { λ a. ⌜ outcome a ≡ extraOf (readAt (tileAt (now (tile .entry)) .rows) (now (recs .entry)) total) b (biasesOf (frameAt (now (frame .entry)))) refs g (view s) ⌝ }
+{
+    let none = Answered {
+        found: s,
+        answer: 0,
+    };
+    if 2 <= s.count {
+        return none;
+    }
+    if !is_ref(refs.first) {
+        return none;
+    }
+    let biases = biases_of(frame);
+    if is_ref(refs.second) {
+        return compound_extra(tile, recs, total, b, &biases, refs, g, s);
+    }
+    single_extra(tile, recs, total, b, &biases, refs.first, s)
+}

@@ -1,0 +1,95 @@
+// The temporal part of a search: the block's place in the projection, and where its cells are aimed.
+use cells::cell::Ref;
+use extra::lists::is_ref;
+use frame::sizes::Sizes;
+use front::ask::Ask;
+use front::ask::global_of;
+use layout::frame_bytes::hint_in;
+use layout::tile_bytes::proj_in;
+use site::block::Site;
+use stack::candidate::Answered;
+use stack::candidate::Found;
+use temporal::aim::Aim;
+use temporal::aim::zero_context;
+use temporal::sweep::Field;
+use temporal::sweep::sweep_all;
+ghost use mathlib.Core.Path.{_≡_};
+ghost use mathlib.Core.Bool.{true};
+ghost use Prim.Native.Nat.{_+_, _≤_};
+ghost use lib.ListN.{length};
+ghost use Rattle.frame.specs.Sizes.{wellSizes};
+ghost use Rattle.layout.specs.FrameBytes.{frameAt};
+ghost use Rattle.layout.specs.TileBytes.{tileAt};
+ghost use Rattle.site.specs.Site.{Placed};
+ghost use Rattle.stack.specs.Stack.{live, view, heft};
+ghost use Rattle.stack.specs.Answered.{outcome};
+ghost use Rattle.temporal.specs.Temporal.{cellRead};
+ghost use Rattle.temporal.specs.Sweep.{Light};
+ghost use Rattle.search.specs.Parts.{distanceTo, aimOf, fieldOf, temporalWhere, zeroWhere, TemporalRoom};
+
+// How far the current frame lies from a reference; 0 without one.
+fn distance_to(frame: &[u8], r: Ref) -> i16
+    requires { ⌜ 109 ≤ length (now frame) ⌝ }
+    ensures { λ z. ⌜ z ≡ distanceTo (frameAt (now (frame .entry))) r ⌝ }
+{
+    if is_ref(r) {
+        let hint = hint_in(frame, r.place());
+        return hint.pocdiff;
+    }
+    0
+}
+
+pub(crate) fn aim_of(frame: &[u8], a: Ask) -> Aim
+    requires { ⌜ 109 ≤ length (now frame) ⌝ }
+    ensures { λ r. ⌜ r ≡ aimOf (frameAt (now (frame .entry))) a ⌝ }
+{
+    let refs = a.refs;
+    let global = global_of(a);
+    let gmv = global.first;
+    Aim {
+        compound: is_ref(refs.second),
+        first: distance_to(frame, refs.first),
+        second: distance_to(frame, refs.second),
+        integer: a.integer == 1,
+        hp: a.hp == 1,
+        gmv,
+    }
+}
+
+// The tile row's part of the projection holds 16 rows, each row of the frame modulo 16.
+pub(crate) fn field_of(z: Sizes, tile: &[u8], b: Site) -> Field
+    requires { ⌜ (168 ≤ length (now tile)) × (wellSizes z ≡ true) × Placed b ⌝ }
+    ensures { λ f. ⌜ f ≡ fieldOf z (tileAt (now (tile .entry))) b ⌝ }
+{
+    Field {
+        first: proj_in(tile) + b.y.0 / 2 % 16 * z.stride + b.x.0 / 2,
+        stride: z.stride,
+        total: z.projected_cells(),
+    }
+}
+
+// Nothing where temporal search is off.
+pub(crate) fn temporal_where(on: bool, proj: &[u8], f: Field, b: Site, a: Aim, s: Found) -> Answered
+    requires { ⌜ TemporalRoom on (length (now proj)) f b a × Light 134 (s .count) (heft (live s)) ⌝ }
+    ensures { λ r. ⌜ (r .found .count ≤ 8) × (heft (live (r .found)) ≤ heft (live s) + 134) ⌝ }
+    ensures { λ r. ⌜ outcome r ≡ temporalWhere on (cellRead (now (proj .entry)) (f .total)) a f b (view s) ⌝ }
+{
+    if on {
+        return sweep_all(proj, f, b, a, s);
+    }
+    Answered {
+        found: s,
+        answer: 0,
+    }
+}
+
+// The zero-motion context: the header's flag, unless a first cell that isn't absent decides.
+pub(crate) fn zero_where(on: bool, proj: &[u8], f: Field, b: Site, a: Aim, header: u8) -> u8
+    requires { ⌜ TemporalRoom on (length (now proj)) f b a × (header ≤ 1) ⌝ }
+    ensures { λ r. ⌜ (r ≡ zeroWhere on (cellRead (now (proj .entry)) (f .total)) a f header) × (r ≤ 1) ⌝ }
+{
+    if on {
+        return zero_context(proj, f.total, f.first, a, header);
+    }
+    header
+}
