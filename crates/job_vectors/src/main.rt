@@ -1,17 +1,17 @@
 // Replays the answers on batches of jobs, and steps them in many orders: standard input holds a head
 // and then cases, each of 444 bytes with its patches behind it; what is printed has to be the list's
 // answers (rust/vectors writes both files, rust/README.md has their layout).
-mod batch;
-mod case;
-mod compare;
-mod dice;
+mod answer;
+mod deeds;
 mod given;
 mod laid;
+mod left;
+mod lists;
 mod orders;
-mod play;
 mod tally;
 mod tasks;
 
+use crate::answer::answer_next;
 use lines::input;
 use lines::input::HEAD;
 use lines::input::MOST_CASES;
@@ -24,11 +24,9 @@ fn main() {
 }
 
 fn replay() {
-    let mut space = [0u8; 444];
     for _ in 0..MOST_CASES {
-        if !input::fill(&mut space) {
+        if !answer_next() {
             return;
         }
-        case::answer(&space);
     }
 }

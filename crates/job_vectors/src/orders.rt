@@ -1,177 +1,110 @@
-// Orders of a batch's steps. Each is held against the same steps taken job after job, and one that
-// finishes every job against the jobs run whole.
-use crate::batch::same_done;
-use crate::compare::same_both;
-use crate::dice::MOST_DRAWN;
-use crate::dice::digits;
-use crate::dice::draw_list;
-use crate::dice::seeded;
-use crate::given::Given;
+// A batch's steps in many orders.
+use crate::deeds::play;
+use crate::given::MOST_PROJ;
+use crate::given::proj_of;
+use crate::given::saved_of;
+use crate::left::FULL;
+use crate::left::LAST;
+use crate::left::ORDERED;
+use crate::left::WHOLE;
+use crate::left::keep;
+use crate::left::keep_done;
+use crate::left::same_all;
+use crate::left::same_buffers;
+use crate::left::same_done;
+use crate::lists::LONGEST;
+use crate::lists::ROOM;
+use crate::lists::job_by_job;
+use crate::lists::make;
 use crate::tally::Seen;
 use crate::tally::Tally;
+use cases::lent::prepare;
+use ground::read::size_at;
 use jobs::job::Batch;
+use motion_cases::fields::PART;
+use rows::setup::lesser;
 ghost use mathlib.Core.Path.{_≡_};
-ghost use Prim.Native.Nat.{_+_, _≤_, _<_};
+ghost use Prim.Native.Nat.{_≤_};
 ghost use lib.ListN.{length};
 
 // Nine steps of three jobs have so many orders.
 const LISTS: usize = 19683;
 
-const STEPS: usize = 9;
+// A case asks for fewer orders.
+const MOST_ORDERS: usize = 1000000;
 
-// What all orders of a batch are tried with; full is the batch with all its steps done. So many
-// lists are drawn, from the seed on.
-pub(crate) struct Tried {
-    pub(crate) given: Given,
-    pub(crate) batch: Batch,
-    pub(crate) full: Batch,
-    pub(crate) seed: usize,
-    pub(crate) drawn: usize,
-}
-
-fn is_as_ordered(
-    played: Batch,
-    ordered: Batch,
-    proj: &[u8],
-    saved: &[u8],
-    other_proj: &[u8],
-    other_saved: &[u8],
-) -> bool {
-    if same_done(played, ordered) {
-        return same_both(proj, saved, other_proj, other_saved);
-    }
-    false
-}
-
-fn see(
-    tried: Tried,
-    steps: &[u8],
-    space: &[u8],
-    recs: &[u8],
-    proj: &mut [u8],
-    saved: &mut [u8],
-    other_proj: &mut [u8],
-    other_saved: &mut [u8],
-    whole_proj: &[u8],
-    whole_saved: &[u8],
-) -> Seen
-    requires { ⌜ (tried .given .lengths .listed ≤ 12000) × (tried .given .lengths .own ≤ 12000) × (length (now space) ≡ 84000) ⌝ }
+// A list of steps, on buffers as lent.
+pub(crate) fn play_anew(case: &[u8], steps: &[u8], proj: &mut [u8], saved: &mut [u8]) -> Batch
+    requires { ⌜ length (now case) ≡ 144444 ⌝ }
 {
-    let given = tried.given;
-    let batch = tried.batch;
-    let full = tried.full;
-    let played = given.as_listed(batch, steps, space, recs, proj, saved);
-    let ordered = given.job_by_job(batch, steps, space, recs, other_proj, other_saved);
+    prepare(proj);
+    prepare(saved);
+    play(case, steps, proj, saved)
+}
+
+fn play_in(case: &[u8], steps: &[u8], proj: &mut [u8], saved: &mut [u8], kept: &mut [u8], at: usize)
+    requires { ⌜ (length (now case) ≡ 144444) × (at ≤ 156096) × (length (now kept) ≡ 208128) ⌝ }
+    requires { ⌜ (length (now proj) ≤ 40000) × (length (now saved) ≤ 12000) ⌝ }
+{
+    keep_done(kept, at, play_anew(case, steps, proj, saved));
+    keep(kept, at, proj, saved);
+}
+
+// What a list leaves is kept at a place.
+pub(crate) fn played(case: &[u8], steps: &[u8], kept: &mut [u8], at: usize)
+    requires { ⌜ (length (now case) ≡ 144444) × (at ≤ 156096) × (length (now kept) ≡ 208128) ⌝ }
+{
+    let mut proj = [0u8; MOST_PROJ];
+    let mut saved = [0u8; PART];
+    let n = proj_of(case);
+    let m = saved_of(case);
+    play_in(case, steps, &mut proj[..n], &mut saved[..m], kept, at);
+}
+
+// The list's steps job by job.
+fn played_in_order(case: &[u8], steps: &[u8], kept: &mut [u8])
+    requires { ⌜ (length (now case) ≡ 144444) × (length (now kept) ≡ 208128) ⌝ }
+{
+    let mut list = [0u8; ROOM];
+    let n = lesser(job_by_job(steps, &mut list), LONGEST);
+    played(case, &list[..n], kept, ORDERED);
+}
+
+fn try_list(case: &[u8], steps: &[u8], kept: &mut [u8]) -> Seen
+    requires { ⌜ (length (now case) ≡ 144444) × (length (now kept) ≡ 208128) ⌝ }
+{
+    played_in_order(case, steps, kept);
+    played(case, steps, kept, LAST);
     Seen {
-        finishes: same_done(played, full),
-        as_ordered: is_as_ordered(played, ordered, proj, saved, other_proj, other_saved),
-        as_whole: same_both(proj, saved, whole_proj, whole_saved),
+        finishes: same_done(kept, FULL),
+        as_ordered: same_all(case, kept, ORDERED),
+        as_whole: same_buffers(case, kept, WHOLE),
     }
 }
 
-// One list of steps more.
-fn try_steps(
-    tally: Tally,
-    tried: Tried,
-    steps: &[u8],
-    space: &[u8],
-    recs: &[u8],
-    proj: &mut [u8],
-    saved: &mut [u8],
-    other_proj: &mut [u8],
-    other_saved: &mut [u8],
-    whole_proj: &[u8],
-    whole_saved: &[u8],
-) -> Tally
-    requires { ⌜ (tried .given .lengths .listed ≤ 12000) × (tried .given .lengths .own ≤ 12000) × (length (now space) ≡ 84000) ⌝ }
-    requires { ⌜ (tally .lists < 1000000) × (tally .finishing ≤ tally .lists) × (tally .«unlike_ordered» ≤ tally .lists) × (tally .«unlike_whole» ≤ tally .lists) ⌝ }
-    ensures { λ r. ⌜ (r .lists ≡ tally .lists + 1) × (r .finishing ≤ r .lists) × (r .«unlike_ordered» ≤ r .lists) × (r .«unlike_whole» ≤ r .lists) ⌝ }
+// Where none are to be drawn, every list is tried.
+fn how_many(drawn: usize) -> usize
+    ensures { λ r. ⌜ r ≤ 1000000 ⌝ }
 {
-    tally.with(see(
-        tried,
-        steps,
-        space,
-        recs,
-        proj,
-        saved,
-        other_proj,
-        other_saved,
-        whole_proj,
-        whole_saved,
-    ))
-}
-
-// Every list of nine steps of three jobs.
-pub(crate) fn try_all(
-    tried: Tried,
-    space: &[u8],
-    recs: &[u8],
-    proj: &mut [u8],
-    saved: &mut [u8],
-    other_proj: &mut [u8],
-    other_saved: &mut [u8],
-    whole_proj: &[u8],
-    whole_saved: &[u8],
-) -> Tally
-    requires { ⌜ (tried .given .lengths .listed ≤ 12000) × (tried .given .lengths .own ≤ 12000) × (length (now space) ≡ 84000) ⌝ }
-{
-    let mut steps = [0u8; STEPS];
-    let mut tally = Tally::none();
-    for i in 0..LISTS {
-        digits(i, &mut steps);
-        tally = try_steps(
-            tally,
-            tried,
-            &steps,
-            space,
-            recs,
-            proj,
-            saved,
-            other_proj,
-            other_saved,
-            whole_proj,
-            whole_saved,
-        );
+    if drawn == 0 {
+        return LISTS;
     }
-    tally
+    lesser(drawn, MOST_ORDERS)
 }
 
-// Drawn lists, each of any length to 512.
-pub(crate) fn try_drawn(
-    tried: Tried,
-    space: &[u8],
-    recs: &[u8],
-    proj: &mut [u8],
-    saved: &mut [u8],
-    other_proj: &mut [u8],
-    other_saved: &mut [u8],
-    whole_proj: &[u8],
-    whole_saved: &[u8],
-) -> Tally
-    requires { ⌜ (tried .given .lengths .listed ≤ 12000) × (tried .given .lengths .own ≤ 12000) × (length (now space) ≡ 84000) ⌝ }
-    requires { ⌜ tried .drawn ≤ 1000000 ⌝ }
+pub(crate) fn try_lists(case: &[u8], kept: &mut [u8]) -> Tally
+    requires { ⌜ (length (now case) ≡ 144444) × (length (now kept) ≡ 208128) ⌝ }
 {
-    let mut steps = [0u8; MOST_DRAWN];
+    let drawn = size_at(case, 148);
+    let n = how_many(drawn);
+    let mut x = size_at(case, 144) as u64;
+    let mut steps = [0u8; LONGEST];
     let mut tally = Tally::none();
-    let mut x = seeded(tried.seed);
-    let n = tried.drawn;
-    for _ in 0..n {
-        let drawn = draw_list(x, &mut steps);
-        x = drawn.x;
-        let len = drawn.len;
-        tally = try_steps(
-            tally,
-            tried,
-            &steps[..len],
-            space,
-            recs,
-            proj,
-            saved,
-            other_proj,
-            other_saved,
-            whole_proj,
-            whole_saved,
-        );
+    for i in 0..n {
+        let made = make(drawn == 0, i, x, &mut steps);
+        x = made.x;
+        let len = made.len;
+        tally = tally.with(try_list(case, &steps[..len], kept));
     }
     tally
 }

@@ -1,32 +1,24 @@
 -- `job_vectors::replay` meets its contract.
 -- Assumes nothing.
 use Prim.Native.Nat.{_≤_, _-_}
-use mathlib.Core.Path.{_≡_}
-use lib.ListN.{length}
 use borrow.Author.Needs.{needs}
 use Rattle.job_vectors.proofs.replay.Statement.{statement}
 use Rattle.job_vectors.proofs.replay.Tie as tie
 
 abbrev Inv-loop : tie.InvT-loop
-Inv-loop space₀ counter₀ space counter = (counter ≤ 4294967295) × (length space ≡ 444)
+Inv-loop counter₀ counter = counter ≤ 4294967295
 
 abbrev μ-loop : tie.MeasureT-loop
-μ-loop space₀ counter₀ space counter = 4294967295 - counter
+μ-loop counter₀ counter = 4294967295 - counter
 
 loop-holds : tie.Need-loop-holds Inv-loop μ-loop
 loop-holds c = search needs
 
-slice-aggregate-fill : tie.Need-slice-aggregate-fill Inv-loop μ-loop
-slice-aggregate-fill c = search needs
-
-fill-requires : tie.Need-fill-requires Inv-loop μ-loop
-fill-requires c κs = search needs
+answer-next-requires : tie.Need-answer-next-requires Inv-loop μ-loop
+answer-next-requires c κs = search needs
 
 returns : tie.Need-returns Inv-loop μ-loop
 returns c = search needs
-
-answer-requires : tie.Need-answer-requires Inv-loop μ-loop
-answer-requires c κs = search needs
 
 add-counter : tie.Need-add-counter Inv-loop μ-loop
 add-counter c = search needs
@@ -47,10 +39,8 @@ replay-spec =
     Inv-loop
     μ-loop
     loop-holds
-    slice-aggregate-fill
-    fill-requires
+    answer-next-requires
     returns
-    answer-requires
     add-counter
     loop-less
     loop-again

@@ -8,10 +8,13 @@ use Rattle.job_vectors.proofs.laid.lay_all.Statement.{statement}
 use Rattle.job_vectors.proofs.laid.lay_all.Tie as tie
 
 abbrev Inv-loop : tie.InvT-loop
-Inv-loop lengths space₀ recs₀ n p₀ counter₀ space recs p counter = (counter ≤ n) × (length space ≡ length space₀) × (length recs ≡ length recs₀) × (length p ≡ 24)
+Inv-loop case₀ p₀ n counter₀ case p counter = (counter ≤ n) × (length case ≡ length case₀) × (length p ≡ 24)
 
 abbrev μ-loop : tie.MeasureT-loop
-μ-loop lengths space₀ recs₀ n p₀ counter₀ space recs p counter = n - counter
+μ-loop case₀ p₀ n counter₀ case p counter = n - counter
+
+size-at-requires : tie.Need-size-at-requires Inv-loop μ-loop
+size-at-requires c κs = search needs
 
 loop-holds : tie.Need-loop-holds Inv-loop μ-loop
 loop-holds c = search needs
@@ -24,9 +27,6 @@ fill-requires c κs = search needs
 
 same-length : tie.Need-same-length Inv-loop μ-loop
 same-length c = search needs
-
-same-length-2 : tie.Need-same-length-2 Inv-loop μ-loop
-same-length-2 c = search needs
 
 returns : tie.Need-returns Inv-loop μ-loop
 returns c = search needs
@@ -46,11 +46,8 @@ loop-less c = search needs
 loop-again : tie.Need-loop-again Inv-loop μ-loop
 loop-again c = search needs
 
-same-length-3 : tie.Need-same-length-3 Inv-loop μ-loop
-same-length-3 c = search needs
-
-same-length-4 : tie.Need-same-length-4 Inv-loop μ-loop
-same-length-4 c = search needs
+same-length-2 : tie.Need-same-length-2 Inv-loop μ-loop
+same-length-2 c = search needs
 
 returns-2 : tie.Need-returns-2 Inv-loop μ-loop
 returns-2 c = search needs
@@ -61,17 +58,16 @@ lay-all-spec =
     (tie.spec
     Inv-loop
     μ-loop
+    size-at-requires
     loop-holds
     slice-aggregate-fill
     fill-requires
     same-length
-    same-length-2
     returns
     slice-aggregate-lay
     lay-requires
     add-counter
     loop-less
     loop-again
-    same-length-3
-    same-length-4
+    same-length-2
     returns-2)

@@ -1,29 +1,41 @@
 -- `job_vectors::tasks::show_steps` meets its contract.
 -- Assumes nothing.
 use Prim.Native.Nat.{_≤_, _-_}
-use mathlib.Core.Path.{_≡_}
-use lib.ListN.{length}
+use lib.ListN.{length-take}
+use native.Mathlib.Omega.{arith}
 use borrow.Author.Needs.{needs}
 use Rattle.job_vectors.proofs.tasks.show_steps.Statement.{statement}
 use Rattle.job_vectors.proofs.tasks.show_steps.Tie as tie
 
 abbrev Inv-loop : tie.InvT-loop
-Inv-loop given space recs proj₀ saved₀ on₀ k₀ proj saved on k = (k ≤ 9) × (length proj ≡ length proj₀) × (length saved ≡ length saved₀)
+Inv-loop case kept each k₀ k = k ≤ 9
 
 abbrev μ-loop : tie.MeasureT-loop
-μ-loop given space recs proj₀ saved₀ on₀ k₀ proj saved on k = 9 - k
+μ-loop case kept each k₀ k = 9 - k
 
-show-both-requires : tie.Need-show-both-requires Inv-loop μ-loop
-show-both-requires c κs = search needs
+array-share-prefix-each : tie.Need-array-share-prefix-each Inv-loop μ-loop
+array-share-prefix-each c = search needs
+
+slice-aggregate-played : tie.Need-slice-aggregate-played Inv-loop μ-loop
+slice-aggregate-played c = simp length-take (omega arith)
+
+played-requires : tie.Need-played-requires Inv-loop μ-loop
+played-requires c κs = search needs
+
+show-requires : tie.Need-show-requires Inv-loop μ-loop
+show-requires c κs = search needs
 
 loop-holds : tie.Need-loop-holds Inv-loop μ-loop
 loop-holds c = search needs
 
-step-requires : tie.Need-step-requires Inv-loop μ-loop
-step-requires c κs = search needs
+array-share-prefix-each-2 : tie.Need-array-share-prefix-each-2 Inv-loop μ-loop
+array-share-prefix-each-2 c = search needs
 
-number-of-requires : tie.Need-number-of-requires Inv-loop μ-loop
-number-of-requires c κs = search needs
+slice-aggregate-step-after : tie.Need-slice-aggregate-step-after Inv-loop μ-loop
+slice-aggregate-step-after c = simp length-take (omega arith)
+
+step-after-requires : tie.Need-step-after-requires Inv-loop μ-loop
+step-after-requires c κs = search needs
 
 cast-number : tie.Need-cast-number Inv-loop μ-loop
 cast-number c = search needs
@@ -43,9 +55,6 @@ loop-again c = search needs
 same-length : tie.Need-same-length Inv-loop μ-loop
 same-length c = search needs
 
-same-length-2 : tie.Need-same-length-2 Inv-loop μ-loop
-same-length-2 c = search needs
-
 returns : tie.Need-returns Inv-loop μ-loop
 returns c = search needs
 
@@ -55,15 +64,18 @@ show-steps-spec =
     (tie.spec
     Inv-loop
     μ-loop
-    show-both-requires
+    array-share-prefix-each
+    slice-aggregate-played
+    played-requires
+    show-requires
     loop-holds
-    step-requires
-    number-of-requires
+    array-share-prefix-each-2
+    slice-aggregate-step-after
+    step-after-requires
     cast-number
     number-requires
     add-k
     loop-less
     loop-again
     same-length
-    same-length-2
     returns)
