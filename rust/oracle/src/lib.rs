@@ -15,6 +15,7 @@ pub mod record;
 pub mod replay;
 pub mod rows;
 pub mod save;
+pub mod search;
 mod sequence_header;
 pub mod splat;
 mod stand_in;
