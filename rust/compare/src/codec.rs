@@ -115,6 +115,7 @@ pub fn table_at(bytes: &[u8; Tile::LEN]) -> RowTable {
     let number = |i: usize| four_at(bytes, 4 * i);
     RowTable {
         entries: std::array::from_fn(|e| Some(number(e)).filter(|&place| place != ABSENT)),
+        projection: number(37),
         col_start: number(38),
         col_end: number(39),
         row_start: number(40),

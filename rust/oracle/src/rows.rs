@@ -4,6 +4,7 @@ use crate::frame::Description;
 use crate::frame::Inputs;
 use crate::outcome::outcome_of;
 use crate::paper::FrameRecord;
+use crate::paper::RowTable;
 use crate::record;
 use crate::src::refmvs::rav1d_refmvs_tile_sbrow_init;
 use crate::src::refmvs::RefMvsFrame;
@@ -81,6 +82,37 @@ impl From<&Table> for RefmvsTile {
                 start: table.row_start,
                 end: table.row_end,
             },
+        }
+    }
+}
+
+/// The port's table, for places and bounds that fit it.
+impl From<&Table> for RowTable {
+    fn from(table: &Table) -> Self {
+        let place = |place: usize| u32::try_from(place).expect("a place fits four bytes");
+        let bound = |bound: i32| u32::try_from(bound).expect("a bound isn't negative");
+        Self {
+            entries: table.entries.map(|entry| entry.map(place)),
+            projection: place(table.projection),
+            col_start: bound(table.col_start),
+            col_end: bound(table.col_end),
+            row_start: bound(table.row_start),
+            row_end: bound(table.row_end),
+        }
+    }
+}
+
+/// The Rust's table, for bounds that fit its types.
+impl From<&RowTable> for Table {
+    fn from(table: &RowTable) -> Self {
+        let place = |place: u32| place as usize;
+        Self {
+            entries: table.entries.map(|entry| entry.map(place)),
+            projection: place(table.projection),
+            col_start: window::real(table.col_start),
+            col_end: window::real(table.col_end),
+            row_start: window::real(table.row_start),
+            row_end: window::real(table.row_end),
         }
     }
 }

@@ -53,6 +53,7 @@ fn table() -> RowTable {
     let offset = |at: usize| (5..21).contains(&at).then(|| 64 * (at as u32 - 5));
     RowTable {
         entries: std::array::from_fn(offset),
+        projection: 0,
         col_start: 0,
         col_end: 50,
         row_start: 0,

@@ -5,6 +5,8 @@ pub mod capture;
 mod jobs;
 mod load;
 mod save;
+mod search;
+mod sizes;
 mod table;
 
 pub use jobs::batch_answer;
@@ -15,6 +17,9 @@ pub use jobs::Job;
 pub use jobs::DONE;
 pub use load::load_answer;
 pub use save::save_answer;
+pub use search::search;
+pub use search::Lent;
+pub use search::Searched;
 pub use table::row_entries;
 
 use crate::frame::Description;
@@ -78,6 +83,8 @@ pub struct Slot {
 #[derive(Clone, Copy, Debug, PartialEq, Eq)]
 pub struct RowTable {
     pub entries: [Option<u32>; 37],
+    /// The place of the tile row's part of the projection.
+    pub projection: u32,
     pub col_start: u32,
     pub col_end: u32,
     pub row_start: u32,

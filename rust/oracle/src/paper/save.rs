@@ -3,16 +3,12 @@ use super::record_answer;
 use super::record_is_well_formed;
 use super::row_entries;
 use super::saved_cells;
+use super::sizes::SIDES_OF;
 use super::window_is_fine;
 use super::FrameRecord;
 use super::CELL_LEN;
 use super::RECORD_LEN;
 use crate::save::Place;
-
-/// Widths in 4-sample units by size code, read off the names.
-const WIDTHS: [u32; 22] = [
-    32, 32, 16, 16, 16, 16, 8, 8, 8, 8, 4, 4, 4, 4, 4, 2, 2, 2, 2, 1, 1, 1,
-];
 
 /// Save: 12, 1, 3, then 4 for the listed sizes, then read by read 6, 4, 8 and 9.
 pub fn save_answer(record: &FrameRecord, place: &Place, records: &[u8], field_len: u64) -> u8 {
@@ -84,23 +80,12 @@ impl<'a> Reads<'a> {
         if !record_is_well_formed(bytes) {
             return Err(8);
         }
-        let end = x + WIDTHS[usize::from(bytes[10])].div_ceil(2);
+        let [width, _] = SIDES_OF[usize::from(bytes[10])];
+        let end = x + width.div_ceil(2);
         if end <= self.limit {
             Ok(end)
         } else {
             Err(9)
         }
-    }
-}
-
-#[cfg(test)]
-mod tests {
-    use super::*;
-    use crate::leaves;
-
-    #[test]
-    fn widths_are_those_of_the_names() {
-        let widths = (0..=255).map_while(leaves::size);
-        assert!(widths.map(|size| u32::from(size.width)).eq(WIDTHS));
     }
 }

@@ -91,7 +91,7 @@ impl SplatQuestion {
     pub fn refusal(&self) -> Result<u8, String> {
         Ok(paper::splat_answer(
             &self.row.record()?,
-            &row_table(&self.table()?),
+            &RowTable::from(&self.table()?),
             &self.block,
             self.record,
             self.buffer_len.into(),
@@ -129,17 +129,4 @@ pub fn block([by4, bx4]: [u32; 2], [width, height]: [u32; 2]) -> Block {
 pub fn listed_records(row: &RowQuestion) -> u32 {
     let finished = row.frame.finished().expect("a row's frame is accepted");
     finished.records.try_into().expect("a small frame")
-}
-
-fn row_table(table: &Table) -> RowTable {
-    let fit = |bound: i32| u32::try_from(bound).expect("a tile's bound isn't negative");
-    RowTable {
-        entries: table
-            .entries
-            .map(|entry| entry.map(|offset| offset.try_into().expect("a small buffer"))),
-        col_start: fit(table.col_start),
-        col_end: fit(table.col_end),
-        row_start: fit(table.row_start),
-        row_end: fit(table.row_end),
-    }
 }
