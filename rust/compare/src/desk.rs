@@ -3,7 +3,7 @@
 use crate::batches;
 use crate::codec;
 use crate::fields;
-use crate::layout;
+use cases::layout;
 use jaskkovir::Frame;
 use jaskkovir::Job;
 use oracle::jobs::Prepared;

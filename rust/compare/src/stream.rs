@@ -1,6 +1,7 @@
 //! A real stream under way: the port's buffers, and the Rust's beside them.
 
 use crate::codec;
+use crate::frames;
 use crate::tally::Tally;
 use crate::traced;
 use crate::traced::Cursor;
@@ -67,7 +68,7 @@ impl Stream {
         let finished = finished.gave().ok_or("the Rust panicked in frame setup")?;
         let record = frame_record(&description, &finished);
         let mut frame = [0; Frame::LEN];
-        let answer = calls::init_frame(&question.asked(), &question.present, &mut frame);
+        let answer = calls::init_frame(&frames::asked(&question), &question.present, &mut frame);
         tally.count(0);
         let mut differing = Vec::new();
         if answer != 0 || frame != codec::frame_bytes(&record) {

@@ -1,6 +1,6 @@
 //! The bodies of a traced decoder's events.
 
-use crate::frames::Question;
+use cases::frames::Question;
 use jaskkovir::tmvs::Window;
 use oracle::paper::FrameRecord;
 

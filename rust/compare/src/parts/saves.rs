@@ -3,10 +3,10 @@
 use crate::codec;
 use crate::frames;
 use crate::frames::cut;
-use crate::layout;
 use crate::options::Options;
 use crate::tally::Tally;
 use crate::windows;
+use cases::layout;
 use jaskkovir::tmvs;
 use jaskkovir::tmvs::Saving;
 use jaskkovir::Frame;

@@ -2,9 +2,9 @@
 
 use crate::codec;
 use crate::frames;
-use crate::frames::Question;
 use crate::options::Options;
 use crate::tally::Tally;
+use cases::frames::Question;
 use jaskkovir::calls;
 use jaskkovir::Frame;
 use oracle::frame;
@@ -32,7 +32,7 @@ pub fn compare(options: &Options) -> Result<Tally, String> {
 
 fn one(tally: &mut Tally, question: &Question, lent: &[u8]) -> Result<(), String> {
     let mut frame = lent.to_vec();
-    let answer = calls::init_frame(&question.asked(), &question.present, &mut frame);
+    let answer = calls::init_frame(&frames::asked(&question), &question.present, &mut frame);
     let description = question.description();
     let wanted = paper::setup_answer(&description, question.present);
     tally.count(wanted);

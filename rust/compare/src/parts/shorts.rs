@@ -3,8 +3,8 @@
 use crate::codec;
 use crate::frames;
 use crate::options::Options;
-use crate::records;
 use crate::tally::Tally;
+use cases::records;
 use jaskkovir::calls;
 use jaskkovir::calls::Block;
 use jaskkovir::calls::Description;
@@ -91,7 +91,7 @@ fn init_frame(random: &mut SplitMix64, tally: &mut Tally) {
             tile_rows,
             hints: &question.hints[..lens[0]],
             hints_by_ref: &question.hints_by_ref[..lens[1]],
-            ..question.asked()
+            ..frames::asked(&question)
         };
         let mut frame = lent;
         let part = &mut frame[..lens[3]];
