@@ -1,0 +1,2 @@
+-- The laws of a search on lent bytes.
+pub mod Stored

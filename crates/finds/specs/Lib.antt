@@ -1,0 +1,2 @@
+-- A search on lent bytes.
+pub mod Store
