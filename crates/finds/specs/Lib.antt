@@ -1,2 +1,3 @@
 -- A search on lent bytes.
+pub mod Question
 pub mod Store
