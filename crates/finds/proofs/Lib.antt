@@ -1,2 +1,3 @@
 -- The laws of a search on lent bytes.
+pub mod Laid
 pub mod Stored
