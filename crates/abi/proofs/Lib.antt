@@ -4,3 +4,4 @@ pub mod Kept
 pub mod LentJobs
 pub mod KeptJobs
 pub mod Shown
+pub mod Sought

@@ -6,3 +6,4 @@ pub mod Moved
 pub mod JobBytes
 pub mod Batched
 pub mod Captured
+pub mod Searched
