@@ -38,6 +38,9 @@ extern "C" {
 #define JASKKOVIR_RECORD_LEN 12
 #define JASKKOVIR_LISTED_LEN 12
 #define JASKKOVIR_CELL_LEN 5
+#define JASKKOVIR_ASK_LEN 24
+#define JASKKOVIR_STACK_LEN 96
+#define JASKKOVIR_FOUND_LEN 2
 
 /* Bytes of a job. */
 #define JASKKOVIR_JOB_LEN 17
@@ -58,7 +61,7 @@ enum jaskkovir_refusal {
     /* Rows or columns that end before they start, more than 16 rows, a column end above the stride,
      * a tile row not below the tile rows (with one tile thread every tile row is the first). */
     JASKKOVIR_RANGE = 3,
-    /* A lent part that is too short, or a record needed that is past the listed ones. */
+    /* A lent part that is too short, or a record or cell needed that is past the listed ones. */
     JASKKOVIR_BUFFER = 4,
     /* A used reference's field isn't lent. */
     JASKKOVIR_FIELD_ABSENT = 5,
@@ -71,7 +74,9 @@ enum jaskkovir_refusal {
     /* A saved block passes its column limit; a later scan neighbour is as large as the block. */
     JASKKOVIR_LIMIT = 9,
     /* A block outside its tile or its row of records, a splat not 1..32 wide and high, a tile that
-     * ends past the frame, a record to be splatted that isn't well formed. */
+     * ends past the frame, a record to be splatted that isn't well formed; a size code above 21,
+     * references not (0..7, -1) or (1..7, 1..7), reference 0 with temporal search on, a used global
+     * vector beyond 16383. */
     JASKKOVIR_BLOCK = 10,
     /* Two jobs' windows share a cell. */
     JASKKOVIR_SHARED = 11,
@@ -158,6 +163,24 @@ uint8_t jaskkovir_load_tmvs(const uint8_t *frame, size_t frame_len, size_t tile_
                             const uint8_t *f3, size_t f3_len, const uint8_t *f4, size_t f4_len,
                             const uint8_t *f5, size_t f5_len, const uint8_t *f6, size_t f6_len,
                             uint8_t *proj, size_t proj_len);
+
+/* Candidate search for a block. records holds the listed records, and proj the listed projected
+ * cells; where temporal search isn't in use proj isn't looked at. The 24 bytes of ask:
+ *   0    first reference, second reference (i8): (1..7, -1) for a single search, (1..7, 1..7) for a
+ *        compound one, (0, -1) for intra block copy
+ *   2    size code; 1 where the point above right is decoded, else 0 (bytes)
+ *   4    row, column of the block (u32, 4-sample units)
+ *   12   global vector of the first reference y, x (i16), 1 where its type is above translation, else
+ *        0 (byte); the same of the second reference
+ *   22   integer vectors, high precision (bytes, 0 or 1)
+ * Answers 0, 1, 4 or 6 to 10. Writes found, two bytes: the count of candidates and the context; and of
+ * stack, eight times a first vector y, x, a second vector y, x (i16) and a weight (u32): below the
+ * count the weight and the vectors that are used, in a single search the first; and in a single
+ * search the first vector of the first two in any case. All else of the 96 bytes stays. */
+uint8_t jaskkovir_find(const uint8_t *frame, size_t frame_len, const uint8_t *tile, size_t tile_len,
+                       const uint8_t *records, size_t records_len, const uint8_t *proj,
+                       size_t proj_len, const uint8_t *ask, size_t ask_len, uint8_t *stack,
+                       size_t stack_len, uint8_t *found, size_t found_len);
 
 /* Loads and saves as jobs: admitted together, then stepped one row of work at a time, in any order.
  * A batch is one to eight jobs of 17 bytes each:

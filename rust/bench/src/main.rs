@@ -6,6 +6,7 @@ mod inputs;
 mod load;
 mod rows;
 mod save;
+mod search;
 mod splat;
 mod timing;
 
@@ -26,6 +27,7 @@ fn main() {
     timings.extend(splat::all());
     timings.extend(load::all());
     timings.extend(save::all());
+    timings.extend(search::all());
     for timing in timings {
         println!("{timing}");
     }

@@ -16,6 +16,14 @@ pub struct Palette {
 }
 
 impl Palette {
+    /// One for frames without intra block copies, with so many cells of a hundred filled.
+    pub fn filled(random: &mut SplitMix64, filled: usize) -> Self {
+        Self {
+            filled,
+            ..Self::new(random, false)
+        }
+    }
+
     pub fn new(random: &mut SplitMix64, intra: bool) -> Self {
         let reach = [3, 40, 600, 4095][random.below(4)];
         let vectors = (0..2 + random.below(8)).map(|_| [(); 2].map(|_| random.component(reach)));

@@ -47,19 +47,7 @@ impl Frame {
     }
 
     pub fn ask(&self, query: &Query) -> Ask {
-        Ask {
-            references: query.references,
-            size: query.size,
-            above_right: query.above_right,
-            by4: query.by4.into(),
-            bx4: query.bx4.into(),
-            globals: query.globals.map(|([y, x], above)| Global {
-                mv: Vector { y, x },
-                above,
-            }),
-            integer: self.integer,
-            hp: self.hp,
-        }
+        ask(query, [self.hp, self.integer])
     }
 
     /// What superblock-row setup gives.
@@ -89,6 +77,23 @@ impl Frame {
             cells[place as usize] = cell;
         }
         [records.concat(), cells.concat()]
+    }
+}
+
+/// A traced query on a frame with these flags for high precision and integer vectors.
+pub fn ask(query: &Query, [hp, integer]: [u8; 2]) -> Ask {
+    Ask {
+        references: query.references,
+        size: query.size,
+        above_right: query.above_right,
+        by4: query.by4.into(),
+        bx4: query.bx4.into(),
+        globals: query.globals.map(|([y, x], above)| Global {
+            mv: Vector { y, x },
+            above,
+        }),
+        integer,
+        hp,
     }
 }
 

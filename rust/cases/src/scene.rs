@@ -28,20 +28,29 @@ pub struct Scene {
     pub records: Vec<u8>,
     pub projection: Vec<u8>,
     place: Place,
-    /// The superblock row's blocks that start in the tile.
     blocks: Vec<Block>,
     palette: Palette,
     codes: Codes,
 }
 
 impl Scene {
-    /// The record must be well formed. The superblock row, and the one above it, are laid out.
+    /// Any superblock row of a frame, whose record must be well formed.
     pub fn new(random: &mut SplitMix64, record: FrameRecord) -> Result<Self, String> {
-        let rust = Prepared::on_record(&record);
         let place = any_place(random, &record);
-        let table = rust.setup(&place).gave().ok_or("the Rust panicked")?;
         let intra = record.use_ref_frame_mvs == 0 && random.below(4) == 0;
         let palette = Palette::new(random, intra);
+        Self::at(random, record, place, palette)
+    }
+
+    /// A superblock row. It is laid out, and so is the one above it.
+    pub fn at(
+        random: &mut SplitMix64,
+        record: FrameRecord,
+        place: Place,
+        palette: Palette,
+    ) -> Result<Self, String> {
+        let rust = Prepared::on_record(&record);
+        let table = rust.setup(&place).gave().ok_or("the Rust panicked")?;
         let listed = RECORD_LEN * paper::listed_records(&record) as usize;
         let cells = 16 * record.n_blocks as usize;
         let projection = (0..cells).flat_map(|_| palette.cell(random)).collect();
@@ -141,6 +150,11 @@ impl Scene {
             ask.globals[1] = ask.globals[0];
         }
         ask
+    }
+
+    /// The superblock row's blocks that start in the tile.
+    pub fn blocks(&self) -> &[Block] {
+        &self.blocks
     }
 
     /// Whether the ask is for a block that was laid out.

@@ -1,12 +1,15 @@
 //! The frame record and the tile in bytes, as the port lays them out.
 
+use jaskkovir::Ask;
 use jaskkovir::Frame;
 use jaskkovir::Tile;
+use oracle::leaves::Vector;
 use oracle::paper::FrameRecord;
 use oracle::paper::HintFields;
 use oracle::paper::RowTable;
 use oracle::paper::Slot;
 use oracle::rows::Table;
+use oracle::search;
 
 const SKIPPED: i16 = i16::MIN;
 
@@ -123,6 +126,50 @@ pub fn table_at(bytes: &[u8; Tile::LEN]) -> RowTable {
     }
 }
 
+/// A search's ask, as the port takes it.
+pub fn ask_bytes(ask: &search::Ask) -> [u8; Ask::LEN] {
+    let global = |global: search::Global| jaskkovir::Global {
+        vector: jaskkovir::leaves::Vector {
+            y: global.mv.y,
+            x: global.mv.x,
+        },
+        above: global.above,
+    };
+    let ask = Ask {
+        references: ask.references,
+        size: ask.size,
+        above_right: ask.above_right,
+        y: ask.by4,
+        x: ask.bx4,
+        globals: ask.globals.map(global),
+        integer: ask.integer,
+        hp: ask.hp,
+    };
+    ask.to_bytes()
+}
+
+/// Any bytes as an ask that the paper can judge.
+pub fn ask_at(bytes: &[u8; Ask::LEN]) -> search::Ask {
+    let ask = Ask::from_bytes(bytes);
+    let global = |global: jaskkovir::Global| search::Global {
+        mv: Vector {
+            y: global.vector.y,
+            x: global.vector.x,
+        },
+        above: global.above,
+    };
+    search::Ask {
+        references: ask.references,
+        size: ask.size,
+        above_right: ask.above_right,
+        by4: ask.y,
+        bx4: ask.x,
+        globals: ask.globals.map(global),
+        integer: ask.integer,
+        hp: ask.hp,
+    }
+}
+
 /// Replaces one of a tile's numbers.
 pub fn put_number(bytes: &mut [u8; Tile::LEN], at: usize, number: u32) {
     bytes[4 * at..4 * at + 4].copy_from_slice(&number.to_le_bytes());
@@ -149,6 +196,12 @@ mod tests {
             let record = frames::record(&mut random, frames::WHOLE);
             assert_eq!(frame_at(&frame_bytes(&record)), record);
         }
+    }
+
+    #[test]
+    fn asks_come_back_from_their_bytes() {
+        let bytes = std::array::from_fn(|at| (100 + 7 * at) as u8);
+        assert_eq!(ask_bytes(&ask_at(&bytes)), bytes);
     }
 
     #[test]

@@ -2,8 +2,8 @@ use crate::parts;
 use shared::split_mix::SplitMix64;
 use std::path::PathBuf;
 
-const USAGE: &str =
-    "compare --short | --long | --sequences DIR | --captures DIR, [--seed N] [--only PART]";
+const USAGE: &str = "compare --short | --long | --sequences DIR | --captures DIR | --finds DIR, \
+                     [--seed N] [--only PART]";
 
 const SEED: u64 = 20261115;
 
@@ -16,6 +16,8 @@ pub enum Extent {
     Sequences(PathBuf),
     /// Only the captures of a folder.
     Captures(PathBuf),
+    /// Only the searches of a folder.
+    Finds(PathBuf),
 }
 
 #[derive(Debug)]
@@ -36,6 +38,7 @@ impl Options {
                 "--long" => extent = Some(Extent::Long),
                 "--sequences" => extent = Some(Extent::Sequences(value()?.into())),
                 "--captures" => extent = Some(Extent::Captures(value()?.into())),
+                "--finds" => extent = Some(Extent::Finds(value()?.into())),
                 "--seed" => seed = number(value()?)?,
                 "--only" => only = Some(part(value()?)?),
                 _ => return Err(USAGE.to_string()),
@@ -50,6 +53,7 @@ impl Options {
         let alone = match self.extent {
             Extent::Sequences(_) => Some(parts::SEQUENCES),
             Extent::Captures(_) => Some(parts::CAPTURES),
+            Extent::Finds(_) => Some(parts::FINDS),
             Extent::Short | Extent::Long => None,
         };
         asked && alone.is_none_or(|alone| alone == part)
@@ -103,6 +107,8 @@ mod tests {
         assert!(options.wants(parts::SEQUENCES) && !options.wants("splat"));
         let options = read("--captures there").unwrap();
         assert!(options.wants(parts::CAPTURES) && !options.wants(parts::SEQUENCES));
+        let options = read("--finds there").unwrap();
+        assert!(options.wants(parts::FINDS) && !options.wants(parts::CAPTURES));
     }
 
     #[test]

@@ -37,8 +37,12 @@ pub struct Now {
     pub present: [u8; 7],
     /// The frames whose fields are lent.
     pub lent: [Option<u16>; 7],
+    /// High precision and integer vectors.
+    pub precision: [u8; 2],
     pub row: Option<Row>,
-    tile: [u8; Tile::LEN],
+    /// The Rust's for that row.
+    pub table: Option<rows::Table>,
+    pub tile: [u8; Tile::LEN],
     pub records: Vec<u8>,
     rust: splat::Prepared,
     pub projection: Vec<u8>,
@@ -54,14 +58,14 @@ impl Stream {
             (b'S', Some(now)) => now.splat(body, tally),
             (b'L', Some(_)) => self.load(body, tally),
             (b'V', Some(_)) => self.save(body, tally),
-            (b'Q', Some(_)) => Ok(Vec::new()),
+            (b'Q', Some(now)) => now.search(event.body, tally),
             _ => Err("an event before the first frame".to_string()),
         }
     }
 
     fn set_up(&mut self, body: &mut Cursor, tally: &mut Tally) -> Result<Vec<String>, String> {
         let number = body.u16();
-        let question = traced::question(body);
+        let (question, precision) = traced::question(body);
         let lent = std::array::from_fn(|_| Some(body.u16()).filter(|&number| number != u16::MAX));
         let description = question.description();
         let finished = frame::setup(&description, question.present.map(|flag| flag == 1));
@@ -84,7 +88,9 @@ impl Stream {
             frame,
             present: question.present,
             lent,
+            precision,
             row: None,
+            table: None,
             tile: [0; Tile::LEN],
             records: vec![0; RECORD_LEN * paper::listed_records(&record) as usize],
             rust: splat::Prepared::new(&description, &NO_ROW),
@@ -114,6 +120,7 @@ impl Now {
         tally.count(0);
         self.rust.set_table(&table);
         self.row = Some(row);
+        self.table = Some(table);
         let starts = [col_start, row_start].map(|start| start as u32);
         if answer == 0 && self.tile == codec::tile_bytes(&table, starts) {
             return Ok(Vec::new());

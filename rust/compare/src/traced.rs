@@ -27,14 +27,15 @@ impl Cursor<'_> {
     }
 }
 
-/// The capture file's kind 1, the mask of the fields lent, and two flags that setup doesn't read.
-pub fn question(body: &mut Cursor) -> Question {
+/// The capture file's kind 1 and the mask of the fields lent; then two flags that setup doesn't read,
+/// high precision and integer vectors.
+pub fn question(body: &mut Cursor) -> (Question, [u8; 2]) {
     let [width, height] = [body.u16().into(), body.u16().into()];
     let [sb128, hint_bits, current_hint] = body.bytes();
     let (hints, hints_by_ref) = (body.bytes(), body.bytes());
     let [tile_rows, tile_threads, frame_threads] = body.bytes().map(usize::from);
-    let [temporal, mask, _, _] = body.bytes();
-    Question {
+    let [temporal, mask] = body.bytes();
+    let question = Question {
         numbers: [width, height, tile_rows, tile_threads, frame_threads],
         sb128,
         hint_bits: hint_bits.into(),
@@ -43,7 +44,8 @@ pub fn question(body: &mut Cursor) -> Question {
         hints_by_ref,
         temporal,
         present: std::array::from_fn(|i| mask >> i & 1),
-    }
+    };
+    (question, body.bytes())
 }
 
 /// A record in the form of the traced decoder's. Its tile columns are no matter of setup: they are

@@ -110,6 +110,24 @@ extern "C" {
         proj_len: usize,
     ) -> u8;
 
+    // The candidate search.
+    pub fn jaskkovir_find(
+        frame: *const u8,
+        frame_len: usize,
+        tile: *const u8,
+        tile_len: usize,
+        records: *const u8,
+        records_len: usize,
+        proj: *const u8,
+        proj_len: usize,
+        ask: *const u8,
+        ask_len: usize,
+        stack: *mut u8,
+        stack_len: usize,
+        found: *mut u8,
+        found_len: usize,
+    ) -> u8;
+
     // crates/abi/src/batches.rt
     pub fn jaskkovir_admit(
         frame: *const u8,

@@ -133,6 +133,54 @@ pub fn splat_mv(frame: &[u8], tile: &[u8], record: &[u8], block: &Block, records
     }
 }
 
+/// The bytes of `stack` and of `found` that [`find`] writes to.
+pub const STACK_LEN: usize = 96;
+pub const FOUND_LEN: usize = 2;
+
+/// What a search reads. `projection` isn't looked at where temporal search is off.
+#[derive(Clone, Copy, Debug)]
+pub struct Searched<'a> {
+    /// 109 bytes.
+    pub frame: &'a [u8],
+    /// 168 bytes.
+    pub tile: &'a [u8],
+    pub records: &'a [u8],
+    pub projection: &'a [u8],
+}
+
+/// The candidate search for what `ask` says, an [`Ask`](crate::Ask) of 24 bytes. Accepted, the first
+/// two bytes of `found` become the count and the context. Of the first eight records of `stack`
+/// (first vector y, x, second vector y, x, i16; weight u32) those below the count get their weight
+/// and used vectors, the first in a single search and both in a compound one; in a single search the
+/// first two get a first vector in any case. All else stays.
+pub fn find(searched: &Searched, ask: &[u8], stack: &mut [u8], found: &mut [u8]) -> u8 {
+    let Searched {
+        frame,
+        tile,
+        records,
+        projection,
+    } = searched;
+    // SAFETY: The parts are slices, and none shares a byte with one written to.
+    unsafe {
+        abi::jaskkovir_find(
+            frame.as_ptr(),
+            frame.len(),
+            tile.as_ptr(),
+            tile.len(),
+            records.as_ptr(),
+            records.len(),
+            projection.as_ptr(),
+            projection.len(),
+            ask.as_ptr(),
+            ask.len(),
+            stack.as_mut_ptr(),
+            stack.len(),
+            found.as_mut_ptr(),
+            found.len(),
+        )
+    }
+}
+
 /// The bytes of `steps` that [`play`] writes.
 pub const STEPS_LEN: usize = 32;
 

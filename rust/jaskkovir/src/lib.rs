@@ -4,10 +4,11 @@
 //! [`refusal`]'s numbers, and then every lent byte is as before. Only the three [`leaves`] have a
 //! domain; outside it they give nothing.
 //!
-//! The functions of [`calls`], [`tmvs`] and [`jobs`] take slices of any length. [`Frame`], [`Tile`]
-//! and [`Job`] hold the parts of a fixed size.
+//! The functions of [`calls`], [`tmvs`] and [`jobs`] take slices of any length. [`Frame`], [`Tile`],
+//! [`Job`] and [`Ask`] hold the parts of a fixed size.
 
 mod abi;
+mod ask;
 pub mod calls;
 mod frame;
 pub mod jobs;
@@ -16,6 +17,8 @@ pub mod refusal;
 mod tile;
 pub mod tmvs;
 
+pub use ask::Ask;
+pub use ask::Global;
 pub use frame::Frame;
 pub use frame::Listed;
 pub use jobs::Job;

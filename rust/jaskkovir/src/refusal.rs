@@ -15,7 +15,7 @@ pub const HINT: u8 = 2;
 /// tile row, after the one-thread rule, that isn't below the tile rows.
 pub const RANGE: u8 = 3;
 
-/// A lent part that is too short, or a record needed that is past the listed ones.
+/// A lent part that is too short, or a record or cell needed that is past the listed ones.
 pub const BUFFER: u8 = 4;
 
 /// A used reference's field isn't lent.
@@ -34,7 +34,9 @@ pub const RECORD: u8 = 8;
 pub const LIMIT: u8 = 9;
 
 /// A block outside its tile or its row of records, a splat that isn't 1 to 32 wide and high, a tile
-/// that ends past the frame, a record to be splatted that isn't well formed.
+/// that ends past the frame, a record to be splatted that isn't well formed; a size code above 21,
+/// references that aren't (0..7, -1) or (1..7, 1..7), reference 0 with temporal search on, a used
+/// global vector beyond 16,383.
 pub const BLOCK: u8 = 10;
 
 /// Two jobs' windows share a cell.

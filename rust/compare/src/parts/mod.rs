@@ -3,11 +3,13 @@
 mod captures;
 mod checks;
 mod example;
+mod finds;
 mod jobs;
 mod leaves;
 mod loads;
 mod rows;
 mod saves;
+mod searches;
 mod sequences;
 mod setups;
 mod shorts;
@@ -24,6 +26,8 @@ pub const SEQUENCES: &str = "sequences";
 
 pub const CAPTURES: &str = "captures";
 
+pub const FINDS: &str = "finds";
+
 /// All parts, in the order in which they run.
 pub fn all() -> impl Iterator<Item = (&'static str, Part)> {
     let parts: Vec<(&'static str, Part)> = vec![
@@ -37,8 +41,10 @@ pub fn all() -> impl Iterator<Item = (&'static str, Part)> {
         ("save", saves::compare),
         ("load", loads::compare),
         ("jobs", jobs::compare),
+        ("search", searches::compare),
         ("shorts", shorts::compare),
         (CAPTURES, captures::compare),
+        (FINDS, finds::compare),
         (SEQUENCES, sequences::compare),
         ("example", example::compare),
     ];

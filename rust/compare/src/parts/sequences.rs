@@ -1,5 +1,5 @@
-//! Real streams: every event of their decodes but for the searches, with the buffers as the events
-//! leave them, compared with the Rust and with what the traced decoder had.
+//! Real streams: every event of their decodes, with the buffers as the events leave them, compared
+//! with the Rust and with what the traced decoder had.
 
 use crate::options::Extent;
 use crate::options::Options;
@@ -43,9 +43,10 @@ pub fn compare(options: &Options) -> Result<Tally, String> {
 
 /// How many events of each kind there were.
 fn note(streams: usize, counts: [u64; 256]) -> String {
-    let [frames, rows, splats, loads, saves] = b"FRSLV".map(|it| counts[usize::from(it)]);
+    let [frames, rows, splats, loads, saves, searches] =
+        b"FRSLVQ".map(|it| counts[usize::from(it)]);
     format!(
         "{streams} streams: {frames} frames, {rows} rows, {splats} splats, {loads} loads, \
-         {saves} saves"
+         {saves} saves, {searches} searches"
     )
 }

@@ -9,6 +9,9 @@ use jaskkovir::calls;
 use jaskkovir::calls::Block;
 use jaskkovir::calls::Description;
 use jaskkovir::calls::Row;
+use jaskkovir::calls::Searched;
+use jaskkovir::calls::FOUND_LEN;
+use jaskkovir::calls::STACK_LEN;
 use jaskkovir::calls::STEPS_LEN;
 use jaskkovir::jobs;
 use jaskkovir::jobs::Sources;
@@ -16,6 +19,7 @@ use jaskkovir::refusal::BUFFER;
 use jaskkovir::tmvs;
 use jaskkovir::tmvs::Saving;
 use jaskkovir::tmvs::Window;
+use jaskkovir::Ask;
 use jaskkovir::Frame;
 use jaskkovir::Job;
 use jaskkovir::Listed;
@@ -35,6 +39,7 @@ pub fn compare(options: &Options) -> Result<Tally, String> {
         save_tmvs(&mut random, &mut tally);
         load_tmvs(&mut random, &mut tally);
         jobs(&mut random, &mut tally);
+        find(&mut random, &mut tally);
         play(&mut random, &mut tally);
     }
     Ok(tally)
@@ -203,6 +208,29 @@ fn jobs(random: &mut SplitMix64, tally: &mut Tally) {
         let answer = jobs::step(&sources, &mut after, k, &mut projection, &mut saved);
         let as_lent = after == batch && [projection, saved] == [part; 2];
         told(tally, "step", &lens, answer, as_lent);
+    }
+}
+
+fn find(random: &mut SplitMix64, tally: &mut Tally) {
+    let (frame, ask) = (frame(random), random.bytes::<{ Ask::LEN }>());
+    let (tile, part) = (random.bytes::<{ Tile::LEN }>(), random.bytes::<200>());
+    let (lent, lent_found) = (random.bytes::<STACK_LEN>(), random.bytes::<FOUND_LEN>());
+    for lens in short_lens([Frame::LEN, Tile::LEN, Ask::LEN, STACK_LEN, FOUND_LEN]) {
+        let searched = Searched {
+            frame: &frame[..lens[0]],
+            tile: &tile[..lens[1]],
+            records: &part,
+            projection: &part,
+        };
+        let (mut stack, mut found) = (lent, lent_found);
+        let answer = calls::find(
+            &searched,
+            &ask[..lens[2]],
+            &mut stack[..lens[3]],
+            &mut found[..lens[4]],
+        );
+        let as_lent = stack == lent && found == lent_found;
+        told(tally, "find", &lens, answer, as_lent);
     }
 }
 
