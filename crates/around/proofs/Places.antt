@@ -39,7 +39,7 @@ unfolding farLine
 far-down true b n = refl
 far-down false b n = refl
 
-step-fits : (side least : ℕ) → 1 ≤ least → least ≤ 4 → (1 ≤ stepOf side least) × (stepOf side least ≤ 4)
+pub step-fits : (side least : ℕ) → 1 ≤ least → least ≤ 4 → (1 ≤ stepOf side least) × (stepOf side least ≤ 4)
 unfolding stepOf
 step-fits side least h i = by (ltb side 16)
   where

@@ -1,0 +1,2 @@
+-- What holds of every answer of a search (7.10.2).
+pub mod Sound
