@@ -1,2 +1,3 @@
 -- What holds of every answer of a search (7.10.2).
 pub mod Sound
+pub mod Reads
