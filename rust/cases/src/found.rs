@@ -38,12 +38,7 @@ fn check_one(frame: &Frame, find: &Find) -> Result<(), String> {
     if !search::can_ask(&ask) {
         return Err(format!("the Rust can't be asked {ask:?}"));
     }
-    // The Rust can't hold an ill-formed size. What it shouldn't read is a match in each list, first
-    // of the smallest size and then of the largest, with a vector that nothing else has. A cell that
-    // it shouldn't read has a distance at which it panics.
-    let [first, second] = ask.references.map(|reference| reference as u8);
-    for (size, mark) in [(21, 77), (0, 99)] {
-        let record = [mark, 1, mark, 2, mark, 3, mark, 4, first, second, size, 2];
+    for record in unread(&ask) {
         let [records, cells] = frame.buffers(find, record, real::BAD_CELL);
         let rust = Prepared::on_record(&frame.record, &table, &records, &cells);
         let answer = search::search(&rust, &ask).gave();
@@ -53,6 +48,15 @@ fn check_one(frame: &Frame, find: &Find) -> Result<(), String> {
         }
     }
     Ok(())
+}
+
+/// What stands for a record that the Rust shouldn't read, which can't hold an ill-formed size: a match
+/// in each list, of the smallest size and of the largest, with a vector that nothing else has. For a
+/// cell that it shouldn't read [`real::BAD_CELL`] will do: it panics at the distance.
+pub fn unread(ask: &Ask) -> [[u8; 12]; 2] {
+    let [first, second] = ask.references.map(|reference| reference as u8);
+    [(21, 77), (0, 99)]
+        .map(|(size, mark)| [mark, 1, mark, 2, mark, 3, mark, 4, first, second, size, 2])
 }
 
 /// Answer and reads, with everything else ill-formed.

@@ -1,6 +1,7 @@
 //! Random frames, records and searches, and real searches, for all that needs no library of the
 //! port.
 
+pub mod codec;
 pub mod found;
 pub mod frames;
 pub mod judge;

@@ -1,5 +1,7 @@
 //! The frame record and the tile in bytes, as the port lays them out.
 
+use cases::codec::ABSENT;
+use cases::codec::SKIPPED;
 use jaskkovir::Ask;
 use jaskkovir::Frame;
 use jaskkovir::Tile;
@@ -11,47 +13,12 @@ use oracle::paper::Slot;
 use oracle::rows::Table;
 use oracle::search;
 
-const SKIPPED: i16 = i16::MIN;
-
-const ABSENT: u32 = u32::MAX;
+pub use cases::codec::frame_bytes;
 
 /// Where the numbers of one byte start, then the hints and the selected references.
 const FLAGS: usize = 48;
 const HINTS: usize = 51;
 const SLOTS: usize = 79;
-
-pub fn frame_bytes(record: &FrameRecord) -> [u8; Frame::LEN] {
-    let mut bytes = Vec::with_capacity(Frame::LEN);
-    bytes.extend(sizes(record).into_iter().flat_map(u32::to_le_bytes));
-    bytes.extend([record.use_ref_frame_mvs, record.temporal, record.n_mfmvs]);
-    for hint in &record.hints {
-        bytes.extend([hint.sign_bias, hint.mfmv_sign]);
-        bytes.extend(i16::from(hint.pocdiff).to_le_bytes());
-    }
-    for slot in &record.slots {
-        bytes.push(slot.reference);
-        bytes.extend(slot.ref2cur.map_or(SKIPPED, i16::from).to_le_bytes());
-        bytes.extend(slot.ref2ref);
-    }
-    bytes.try_into().expect("the fields have 109 bytes")
-}
-
-fn sizes(record: &FrameRecord) -> [u32; 12] {
-    [
-        record.width,
-        record.height,
-        record.iw4,
-        record.ih4,
-        record.iw8,
-        record.ih8,
-        record.sbsz,
-        record.stride,
-        record.tile_rows,
-        record.n_blocks,
-        record.n_tile_threads,
-        record.n_frame_threads,
-    ]
-}
 
 /// Any bytes as a record that the paper can judge.
 pub fn frame_at(bytes: &[u8; Frame::LEN]) -> FrameRecord {
@@ -101,16 +68,11 @@ fn narrowed(distance: i16) -> i8 {
 
 /// The Rust's table, with the starts that it was asked for.
 pub fn tile_bytes(table: &Table, [col_start, row_start]: [u32; 2]) -> [u8; Tile::LEN] {
-    let fit = |number: usize| u32::try_from(number).expect("a place fits four bytes");
-    let end = |number: i32| u32::try_from(number).expect("an end is cut to the frame");
-    let entries = table.entries.map(|entry| entry.map_or(ABSENT, fit));
-    let bounds = [col_start, end(table.col_end), row_start, end(table.row_end)];
-    let numbers = entries
-        .into_iter()
-        .chain([fit(table.projection)])
-        .chain(bounds);
-    let bytes: Vec<u8> = numbers.flat_map(u32::to_le_bytes).collect();
-    bytes.try_into().expect("42 numbers have 168 bytes")
+    cases::codec::tile_bytes(&RowTable {
+        col_start,
+        row_start,
+        ..table.into()
+    })
 }
 
 /// Any bytes as a tile that the paper can judge.
@@ -126,7 +88,7 @@ pub fn table_at(bytes: &[u8; Tile::LEN]) -> RowTable {
     }
 }
 
-/// A search's ask, as the port takes it.
+/// A search's ask, by the wrapper's own type.
 pub fn ask_bytes(ask: &search::Ask) -> [u8; Ask::LEN] {
     let global = |global: search::Global| jaskkovir::Global {
         vector: jaskkovir::leaves::Vector {
@@ -202,6 +164,7 @@ mod tests {
     fn asks_come_back_from_their_bytes() {
         let bytes = std::array::from_fn(|at| (100 + 7 * at) as u8);
         assert_eq!(ask_bytes(&ask_at(&bytes)), bytes);
+        assert_eq!(cases::codec::ask_bytes(&ask_at(&bytes)), bytes);
     }
 
     #[test]

@@ -6,6 +6,7 @@
 mod capture;
 mod cells;
 mod damage;
+mod find;
 mod frame;
 mod job;
 mod leaf;
@@ -53,6 +54,7 @@ fn for_each_list(act: impl Fn(&List) -> Result<(), String>) -> Result<(), String
         save::list,
         load::list,
         job::list,
+        find::list,
         capture::list,
         capture::worked_list,
     ] {
