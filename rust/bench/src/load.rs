@@ -7,14 +7,17 @@ use oracle::load::Prepared;
 use shared::split_mix::SplitMix64;
 use std::hint::black_box;
 
-const CELL_LEN: usize = 5;
+pub const CELL_LEN: usize = 5;
 
 /// The frame in 8-sample units; its rows have as many cells as it has columns.
-const COLUMNS: usize = 240;
+pub const COLUMNS: usize = 240;
 const ROWS: usize = 135;
 
+/// Rows of a superblock row.
+pub const HIGH: usize = 8;
+
 /// What a field is filled with, beside cells without motion.
-enum Fill {
+pub enum Fill {
     /// Each twentieth cell.
     Single,
     /// Blocks of 4 x 4 cells, all over.
@@ -35,8 +38,7 @@ pub fn all() -> Vec<Timing> {
 
 /// All superblock rows of the frame.
 fn filled(name: &str, fill: &Fill) -> Timing {
-    let mut random = SplitMix64::new(1);
-    let fields: [Vec<u8>; 7] = std::array::from_fn(|_| field(&mut random, fill));
+    let fields = fields(fill);
     let fields = fields.each_ref().map(Vec::as_slice);
     let frame = inputs::frame();
     let listed = frame.listed_sizes().expect("the frame is accepted");
@@ -44,7 +46,7 @@ fn filled(name: &str, fill: &Fill) -> Timing {
     let Frame(frame) = frame;
     let (first, lent) = (rust_window(0), fields.map(Some));
     let mut rust = Prepared::new(&inputs::FRAME, [true; 7], &first, lent, &projection);
-    let tops = || (0..ROWS).step_by(8);
+    let tops = || (0..ROWS).step_by(HIGH);
     let ours = || {
         for top in tops() {
             let window = window(top);
@@ -69,7 +71,7 @@ fn window(top: usize) -> Window {
         left: 0,
         right: COLUMNS,
         top,
-        bottom: top + 8,
+        bottom: top + HIGH,
     }
 }
 
@@ -80,8 +82,14 @@ fn rust_window(top: usize) -> oracle::Window {
         col_start: 0,
         col_end: COLUMNS as u32,
         row_start: top as u32,
-        row_end: top as u32 + 8,
+        row_end: (top + HIGH) as u32,
     }
+}
+
+/// One for each reference.
+pub fn fields(fill: &Fill) -> [Vec<u8>; 7] {
+    let mut random = SplitMix64::new(1);
+    std::array::from_fn(|_| field(&mut random, fill))
 }
 
 fn field(random: &mut SplitMix64, fill: &Fill) -> Vec<u8> {

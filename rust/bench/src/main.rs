@@ -3,6 +3,7 @@
 
 mod frame;
 mod inputs;
+mod jobs;
 mod load;
 mod rows;
 mod save;
@@ -27,6 +28,7 @@ fn main() {
     timings.extend(splat::all());
     timings.extend(load::all());
     timings.extend(save::all());
+    timings.push(jobs::batch());
     timings.extend(search::all());
     for timing in timings {
         println!("{timing}");

@@ -2,6 +2,7 @@
 //! answers 0.
 
 use crate::abi;
+use crate::lend::lend;
 
 /// What a frame is set up from.
 #[derive(Clone, Copy, Debug)]
@@ -53,84 +54,100 @@ pub fn init_frame(description: &Description, present: &[u8], frame: &mut [u8]) -
         hints_by_ref,
         ..
     } = description;
-    // SAFETY: The parts are slices, and none shares a byte with the one written to.
-    unsafe {
-        abi::jaskkovir_init_frame(
-            description.width,
-            description.height,
-            description.sb128,
-            description.hint_bits,
-            description.current_hint,
-            hints.as_ptr(),
-            hints.len(),
-            hints_by_ref.as_ptr(),
-            hints_by_ref.len(),
-            description.tile_rows,
-            description.tile_threads,
-            description.frame_threads,
-            description.temporal,
-            present.as_ptr(),
-            present.len(),
-            frame.as_mut_ptr(),
-            frame.len(),
-        )
-    }
+    lend(
+        [hints, hints_by_ref, present],
+        [frame],
+        |[hints, hints_by_ref, present], [frame]| {
+            // SAFETY: The parts are slices, and none shares a byte with the one written to.
+            unsafe {
+                abi::jaskkovir_init_frame(
+                    description.width,
+                    description.height,
+                    description.sb128,
+                    description.hint_bits,
+                    description.current_hint,
+                    hints.at,
+                    hints.len,
+                    hints_by_ref.at,
+                    hints_by_ref.len,
+                    description.tile_rows,
+                    description.tile_threads,
+                    description.frame_threads,
+                    description.temporal,
+                    present.at,
+                    present.len,
+                    frame.at,
+                    frame.len,
+                )
+            }
+        },
+    )
 }
 
 /// Whether a frame record is one that later calls take.
 pub fn check(frame: &[u8]) -> u8 {
-    // SAFETY: The part is a slice.
-    unsafe { abi::jaskkovir_check(frame.as_ptr(), frame.len()) }
+    lend([frame], [], |[frame], []| {
+        // SAFETY: The part is a slice.
+        unsafe { abi::jaskkovir_check(frame.at, frame.len) }
+    })
 }
 
 /// How many cells and records to lend. Accepted, it writes the first 12 bytes of `sizes`: saved
 /// cells, projected cells, records (u32 each).
 pub fn listed_sizes(frame: &[u8], sizes: &mut [u8]) -> u8 {
-    // SAFETY: The parts are slices, and share no byte.
-    unsafe {
-        abi::jaskkovir_listed_sizes(frame.as_ptr(), frame.len(), sizes.as_mut_ptr(), sizes.len())
-    }
+    lend([frame], [sizes], |[frame], [sizes]| {
+        // SAFETY: The parts are slices, and share no byte.
+        unsafe { abi::jaskkovir_listed_sizes(frame.at, frame.len, sizes.at, sizes.len) }
+    })
 }
 
 /// Superblock-row setup. Accepted, it writes the first 168 bytes of `tile`.
 pub fn tile_sbrow_init(frame: &[u8], row: &Row, tile: &mut [u8]) -> u8 {
-    // SAFETY: The parts are slices, and share no byte.
-    unsafe {
-        abi::jaskkovir_tile_sbrow_init(
-            frame.as_ptr(),
-            frame.len(),
-            row.col_start,
-            row.col_end,
-            row.row_start,
-            row.row_end,
-            row.superblock_row,
-            row.tile_row,
-            row.pass,
-            tile.as_mut_ptr(),
-            tile.len(),
-        )
-    }
+    lend([frame], [tile], |[frame], [tile]| {
+        // SAFETY: The parts are slices, and share no byte.
+        unsafe {
+            abi::jaskkovir_tile_sbrow_init(
+                frame.at,
+                frame.len,
+                row.col_start,
+                row.col_end,
+                row.row_start,
+                row.row_end,
+                row.superblock_row,
+                row.tile_row,
+                row.pass,
+                tile.at,
+                tile.len,
+            )
+        }
+    })
 }
 
 /// Splat. Accepted, it writes the record to each place of the block in `records`.
 pub fn splat_mv(frame: &[u8], tile: &[u8], record: &[u8], block: &Block, records: &mut [u8]) -> u8 {
-    // SAFETY: The parts are slices, and none shares a byte with the one written to.
-    unsafe {
-        abi::jaskkovir_splat_mv(
-            frame.as_ptr(),
-            frame.len(),
-            tile.as_ptr(),
-            tile.len(),
-            record.as_ptr(),
-            record.len(),
-            block.y,
-            block.x,
-            block.width,
-            block.height,
-            records.as_mut_ptr(),
-            records.len(),
-        )
-    }
+    lend(
+        [frame, tile, record],
+        [records],
+        |[frame, tile, record], [records]| {
+            // SAFETY: The parts are slices, and none shares a byte with the one written to.
+            unsafe {
+                abi::jaskkovir_splat_mv(
+                    frame.at,
+                    frame.len,
+                    tile.at,
+                    tile.len,
+                    record.at,
+                    record.len,
+                    block.y,
+                    block.x,
+                    block.width,
+                    block.height,
+                    records.at,
+                    records.len,
+                )
+            }
+        },
+    )
 }
 
 /// The bytes of `stack` and of `found` that [`find`] writes to.
@@ -160,25 +177,31 @@ pub fn find(searched: &Searched, ask: &[u8], stack: &mut [u8], found: &mut [u8])
         records,
         projection,
     } = searched;
-    // SAFETY: The parts are slices, and none shares a byte with one written to.
-    unsafe {
-        abi::jaskkovir_find(
-            frame.as_ptr(),
-            frame.len(),
-            tile.as_ptr(),
-            tile.len(),
-            records.as_ptr(),
-            records.len(),
-            projection.as_ptr(),
-            projection.len(),
-            ask.as_ptr(),
-            ask.len(),
-            stack.as_mut_ptr(),
-            stack.len(),
-            found.as_mut_ptr(),
-            found.len(),
-        )
-    }
+    lend(
+        [frame, tile, records, projection, ask],
+        [stack, found],
+        |[frame, tile, records, projection, ask], [stack, found]| {
+            // SAFETY: The parts are slices, and none shares a byte with one written to.
+            unsafe {
+                abi::jaskkovir_find(
+                    frame.at,
+                    frame.len,
+                    tile.at,
+                    tile.len,
+                    records.at,
+                    records.len,
+                    projection.at,
+                    projection.len,
+                    ask.at,
+                    ask.len,
+                    stack.at,
+                    stack.len,
+                    found.at,
+                    found.len,
+                )
+            }
+        },
+    )
 }
 
 /// The bytes of `steps` that [`play`] writes.
@@ -188,17 +211,23 @@ pub const STEPS_LEN: usize = 32;
 /// reference 0 and every one of `saved` as zero, the jobs run in list order, and the first 32 bytes
 /// of `steps` become eight u32: how many steps each job had, 0 behind the last.
 pub fn play(file: &[u8], projection: &mut [u8], saved: &mut [u8], steps: &mut [u8]) -> u8 {
-    // SAFETY: The parts are slices, and none shares a byte with one written to.
-    unsafe {
-        abi::jaskkovir_play(
-            file.as_ptr(),
-            file.len(),
-            projection.as_mut_ptr(),
-            projection.len(),
-            saved.as_mut_ptr(),
-            saved.len(),
-            steps.as_mut_ptr(),
-            steps.len(),
-        )
-    }
+    lend(
+        [file],
+        [projection, saved, steps],
+        |[file], [projection, saved, steps]| {
+            // SAFETY: The parts are slices, and none shares a byte with one written to.
+            unsafe {
+                abi::jaskkovir_play(
+                    file.at,
+                    file.len,
+                    projection.at,
+                    projection.len,
+                    saved.at,
+                    saved.len,
+                    steps.at,
+                    steps.len,
+                )
+            }
+        },
+    )
 }

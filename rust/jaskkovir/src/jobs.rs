@@ -2,6 +2,7 @@
 //! any order.
 
 use crate::abi;
+use crate::lend::lend;
 
 /// What a step of a finished job answers: neither acceptance nor a refusal.
 pub const DONE: u8 = 15;
@@ -84,37 +85,45 @@ pub fn admit(sources: &Sources, jobs: &[u8], projection: &[u8], saved: &[u8]) ->
         fields: [f0, f1, f2, f3, f4, f5, f6],
         records,
     } = sources;
-    // SAFETY: The parts are slices, and none is written to.
-    unsafe {
-        abi::jaskkovir_admit(
-            frame.as_ptr(),
-            frame.len(),
-            present.as_ptr(),
-            present.len(),
-            jobs.as_ptr(),
-            jobs.len(),
-            f0.as_ptr(),
-            f0.len(),
-            f1.as_ptr(),
-            f1.len(),
-            f2.as_ptr(),
-            f2.len(),
-            f3.as_ptr(),
-            f3.len(),
-            f4.as_ptr(),
-            f4.len(),
-            f5.as_ptr(),
-            f5.len(),
-            f6.as_ptr(),
-            f6.len(),
-            records.as_ptr(),
-            records.len(),
-            projection.as_ptr(),
-            projection.len(),
-            saved.as_ptr(),
-            saved.len(),
-        )
-    }
+    lend(
+        [
+            frame, present, jobs, f0, f1, f2, f3, f4, f5, f6, records, projection, saved,
+        ],
+        [],
+        |[frame, present, jobs, f0, f1, f2, f3, f4, f5, f6, records, projection, saved], []| {
+            // SAFETY: The parts are slices, and none is written to.
+            unsafe {
+                abi::jaskkovir_admit(
+                    frame.at,
+                    frame.len,
+                    present.at,
+                    present.len,
+                    jobs.at,
+                    jobs.len,
+                    f0.at,
+                    f0.len,
+                    f1.at,
+                    f1.len,
+                    f2.at,
+                    f2.len,
+                    f3.at,
+                    f3.len,
+                    f4.at,
+                    f4.len,
+                    f5.at,
+                    f5.len,
+                    f6.at,
+                    f6.len,
+                    records.at,
+                    records.len,
+                    projection.at,
+                    projection.len,
+                    saved.at,
+                    saved.len,
+                )
+            }
+        },
+    )
 }
 
 /// One row of job `k`'s work. Answers 0 where it is done and counted, [`DONE`] where nothing was
@@ -132,36 +141,42 @@ pub fn step(
         fields: [f0, f1, f2, f3, f4, f5, f6],
         records,
     } = sources;
-    // SAFETY: The parts are slices, and none shares a byte with one written to.
-    unsafe {
-        abi::jaskkovir_step(
-            frame.as_ptr(),
-            frame.len(),
-            present.as_ptr(),
-            present.len(),
-            jobs.as_mut_ptr(),
-            jobs.len(),
-            k,
-            f0.as_ptr(),
-            f0.len(),
-            f1.as_ptr(),
-            f1.len(),
-            f2.as_ptr(),
-            f2.len(),
-            f3.as_ptr(),
-            f3.len(),
-            f4.as_ptr(),
-            f4.len(),
-            f5.as_ptr(),
-            f5.len(),
-            f6.as_ptr(),
-            f6.len(),
-            records.as_ptr(),
-            records.len(),
-            projection.as_mut_ptr(),
-            projection.len(),
-            saved.as_mut_ptr(),
-            saved.len(),
-        )
-    }
+    lend(
+        [frame, present, f0, f1, f2, f3, f4, f5, f6, records],
+        [jobs, projection, saved],
+        |[frame, present, f0, f1, f2, f3, f4, f5, f6, records], [jobs, projection, saved]| {
+            // SAFETY: The parts are slices, and none shares a byte with one written to.
+            unsafe {
+                abi::jaskkovir_step(
+                    frame.at,
+                    frame.len,
+                    present.at,
+                    present.len,
+                    jobs.at,
+                    jobs.len,
+                    k,
+                    f0.at,
+                    f0.len,
+                    f1.at,
+                    f1.len,
+                    f2.at,
+                    f2.len,
+                    f3.at,
+                    f3.len,
+                    f4.at,
+                    f4.len,
+                    f5.at,
+                    f5.len,
+                    f6.at,
+                    f6.len,
+                    records.at,
+                    records.len,
+                    projection.at,
+                    projection.len,
+                    saved.at,
+                    saved.len,
+                )
+            }
+        },
+    )
 }

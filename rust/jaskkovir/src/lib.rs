@@ -11,8 +11,11 @@ mod abi;
 mod ask;
 pub mod calls;
 mod frame;
+#[cfg(feature = "guarded")]
+mod guarded;
 pub mod jobs;
 pub mod leaves;
+mod lend;
 pub mod refusal;
 mod tile;
 pub mod tmvs;

@@ -2,6 +2,7 @@
 //! answers 0.
 
 use crate::abi;
+use crate::lend::lend;
 
 /// What a save or load covers, in 8-sample units.
 #[derive(Clone, Copy, Debug)]
@@ -24,24 +25,26 @@ pub struct Saving {
 /// Save. Accepted, it writes the window's cells of `field`, each from the record that lies over it.
 pub fn save_tmvs(frame: &[u8], saving: &Saving, records: &[u8], field: &mut [u8]) -> u8 {
     let window = &saving.window;
-    // SAFETY: The parts are slices, and none shares a byte with the one written to.
-    unsafe {
-        abi::jaskkovir_save_tmvs(
-            frame.as_ptr(),
-            frame.len(),
-            window.tile_row,
-            window.left,
-            window.right,
-            window.top,
-            window.bottom,
-            saving.superblock_row,
-            saving.pass,
-            records.as_ptr(),
-            records.len(),
-            field.as_mut_ptr(),
-            field.len(),
-        )
-    }
+    lend([frame, records], [field], |[frame, records], [field]| {
+        // SAFETY: The parts are slices, and none shares a byte with the one written to.
+        unsafe {
+            abi::jaskkovir_save_tmvs(
+                frame.at,
+                frame.len,
+                window.tile_row,
+                window.left,
+                window.right,
+                window.top,
+                window.bottom,
+                saving.superblock_row,
+                saving.pass,
+                records.at,
+                records.len,
+                field.at,
+                field.len,
+            )
+        }
+    })
 }
 
 /// Load. Accepted, it writes the window's cells of `projection`. A field whose `present` byte, of 7,
@@ -54,34 +57,40 @@ pub fn load_tmvs(
     projection: &mut [u8],
 ) -> u8 {
     let [f0, f1, f2, f3, f4, f5, f6] = fields;
-    // SAFETY: The parts are slices, and none shares a byte with the one written to.
-    unsafe {
-        abi::jaskkovir_load_tmvs(
-            frame.as_ptr(),
-            frame.len(),
-            window.tile_row,
-            window.left,
-            window.right,
-            window.top,
-            window.bottom,
-            present.as_ptr(),
-            present.len(),
-            f0.as_ptr(),
-            f0.len(),
-            f1.as_ptr(),
-            f1.len(),
-            f2.as_ptr(),
-            f2.len(),
-            f3.as_ptr(),
-            f3.len(),
-            f4.as_ptr(),
-            f4.len(),
-            f5.as_ptr(),
-            f5.len(),
-            f6.as_ptr(),
-            f6.len(),
-            projection.as_mut_ptr(),
-            projection.len(),
-        )
-    }
+    lend(
+        [frame, present, f0, f1, f2, f3, f4, f5, f6],
+        [projection],
+        |[frame, present, f0, f1, f2, f3, f4, f5, f6], [projection]| {
+            // SAFETY: The parts are slices, and none shares a byte with the one written to.
+            unsafe {
+                abi::jaskkovir_load_tmvs(
+                    frame.at,
+                    frame.len,
+                    window.tile_row,
+                    window.left,
+                    window.right,
+                    window.top,
+                    window.bottom,
+                    present.at,
+                    present.len,
+                    f0.at,
+                    f0.len,
+                    f1.at,
+                    f1.len,
+                    f2.at,
+                    f2.len,
+                    f3.at,
+                    f3.len,
+                    f4.at,
+                    f4.len,
+                    f5.at,
+                    f5.len,
+                    f6.at,
+                    f6.len,
+                    projection.at,
+                    projection.len,
+                )
+            }
+        },
+    )
 }

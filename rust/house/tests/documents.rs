@@ -1,0 +1,119 @@
+//! docs/CONTRACTS.md has every public function with its wrong programs, docs/ARCHITECTURE.md every file.
+
+use house::libraries;
+use house::read;
+use house::root;
+use house::rows;
+use house::section;
+use house::Row;
+
+fn document(name: &str) -> String {
+    read(&root().join("docs").join(name))
+}
+
+/// What is told of, and fails the test where there is any.
+fn none(faults: Vec<String>) {
+    assert!(faults.is_empty(), "\n{}", faults.join("\n"));
+}
+
+/// A definition, and two wrong programs, or those of another row, or why there are none.
+fn is_whole(row: &Row) -> bool {
+    let wrong = &row.wrong;
+    !row.definition.is_empty()
+        && (wrong.contains("; ") || wrong.starts_with("as ") || wrong.starts_with('('))
+}
+
+#[test]
+fn every_public_function_is_told() {
+    let contracts = document("CONTRACTS.md");
+    let mut faults = Vec::new();
+    for library in libraries() {
+        let told = rows(&section(&contracts, "##", &library.name).unwrap_or_default());
+        let functions = library.functions();
+        for function in functions.iter().filter(|function| function.public) {
+            let name = &function.name;
+            let mut own = told.iter().filter(|row| row.functions.contains(name));
+            // A function that prints promises nothing, and is only named.
+            let is_named = || contracts.contains(&format!("`{name}`"));
+            if !own.any(is_whole) && (function.promises || !is_named()) {
+                faults.push(format!("{}: {name} isn't told of", library.name));
+            }
+        }
+    }
+    none(faults);
+}
+
+#[test]
+fn every_wrong_program_is_told_and_applies() {
+    let contracts = document("CONTRACTS.md");
+    let mut faults = Vec::new();
+    for library in libraries() {
+        let own = section(&contracts, "##", &library.name).unwrap_or_default();
+        let edits = library.edits();
+        for edit in &edits {
+            if !own.contains(&edit.name) {
+                faults.push(format!("{}: {} isn't told of", library.name, edit.name));
+            }
+            if edit.places != 1 || !edit.changes {
+                faults.push(format!(
+                    "{}: {} applies at {} places",
+                    library.name, edit.name, edit.places
+                ));
+            }
+        }
+        for name in rows(&own).into_iter().flat_map(|row| row.edits) {
+            let elsewhere = || {
+                libraries()
+                    .iter()
+                    .any(|other| other.edits().iter().any(|edit| edit.name == name))
+            };
+            if !edits.iter().any(|edit| edit.name == name) && !elsewhere() {
+                faults.push(format!("{}: there is no edit {name}", library.name));
+            }
+        }
+    }
+    none(faults);
+}
+
+#[test]
+fn every_file_is_told() {
+    let architecture = document("ARCHITECTURE.md");
+    let mut faults = Vec::new();
+    for library in libraries() {
+        let own = section(&architecture, "###", &library.name).unwrap_or_default();
+        for (folder, ending, suffix) in [
+            ("src", ".rt", ".rt"),
+            ("specs", ".antt", ""),
+            ("proofs", ".antt", ""),
+        ] {
+            for stem in library.stems(folder, ending) {
+                let file = format!("{folder}/{stem}{suffix}");
+                if !own.split([' ', ',', '\n']).any(|word| word == file) {
+                    faults.push(format!("{}: {file} isn't told of", library.name));
+                }
+            }
+        }
+    }
+    none(faults);
+}
+
+#[test]
+fn no_function_is_long() {
+    let long = libraries()
+        .iter()
+        .flat_map(|library| {
+            library
+                .functions()
+                .into_iter()
+                .filter(|function| function.lines >= 40)
+                .map(|function| {
+                    format!(
+                        "{}: {} has {} lines",
+                        library.name, function.name, function.lines
+                    )
+                })
+                .collect::<Vec<_>>()
+        })
+        .collect();
+    none(long);
+}
