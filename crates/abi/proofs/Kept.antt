@@ -7,8 +7,8 @@ use Prim.Native.Nat.{ℕ, _^_, _≤_, _<_}
 use lib.ListN.{length, take}
 use Rattle.ground.specs.Script.{run}
 use Rattle.ground.proofs.Answers.{refused-not, run-accepted}
-use Rattle.frame.specs.declared.description.Description.{Description}
-use Rattle.frame.specs.Description.{setupAnswer}
+use Rattle.hints.specs.declared.description.Description.{Description}
+use Rattle.hints.specs.Description.{setupAnswer}
 use Rattle.frame.specs.Record.{frameOf}
 use Rattle.rows.specs.declared.setup.TileRange.{TileRange}
 use Rattle.rows.specs.Setup.{tileOf, rowsAnswer}

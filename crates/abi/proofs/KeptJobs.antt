@@ -20,12 +20,12 @@ use Rattle.ground.specs.Script.{run}
 use Rattle.ground.proofs.Littles.{four-back}
 use Rattle.ground.proofs.Picks.{both, pick-true}
 use Rattle.ground.proofs.Puts.{put-length, put-outside}
-use Rattle.rows.specs.Table.{tab}
-use Rattle.rows.proofs.Tabled.{tab-at}
-use Rattle.jobs.specs.declared.job.Job.{Job}
-use Rattle.jobs.specs.declared.job.Batch.{Batch}
-use Rattle.jobs.specs.Job.{noJob, jobAt}
-use Rattle.jobs.specs.Bytes.{jobHeld}
+use Rattle.ground.specs.Tab.{tab}
+use Rattle.ground.proofs.Tabs.{tab-at}
+use Rattle.job.specs.declared.record.Job.{Job}
+use Rattle.job.specs.declared.record.Batch.{Batch}
+use Rattle.job.specs.Job.{noJob, jobAt}
+use Rattle.job.specs.Bytes.{jobHeld}
 use Rattle.jobs.specs.Admit.{Handed}
 use Rattle.jobs.specs.Step.{stepNumber, stepDone, withDone, names, turnNumber, turnBatch}
 use Rattle.jobs.proofs.Steps.{due}
@@ -33,7 +33,7 @@ use Rattle.abi.specs.Moved.{loadLacks}
 use Rattle.abi.specs.JobBytes.{jobFrom, jobIn, jobsIn, placeIn, batchIn}
 use Rattle.abi.specs.Batched.{handedIn, donePatch, steppedNumber, steppedJobs}
 use Rattle.abi.proofs.LentJobs.{Named, inside, names-job, job-there}
-use Rattle.layout.proofs.Places.{tab-length}
+use Rattle.ground.proofs.Tabs.{tab-length}
 
 -- A job by its bytes: those before its steps done, and the steps done.
 module _ (l m : List ℕ) (i : ℕ) where

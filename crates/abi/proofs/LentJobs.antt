@@ -13,11 +13,11 @@ use Rattle.ground.specs.Answer.{accepted}
 use Rattle.ground.specs.Pick.{pick}
 use Rattle.ground.specs.Script.{Patch, run}
 use Rattle.ground.proofs.Picks.{both, pick-true}
-use Rattle.rows.proofs.Tabled.{tab-at}
-use Rattle.jobs.specs.declared.job.Job.{Job}
-use Rattle.jobs.specs.declared.job.Answer.the-variants.{Moved, Done, Refused}
+use Rattle.ground.proofs.Tabs.{tab-at}
+use Rattle.job.specs.declared.record.Job.{Job}
+use Rattle.job.specs.Job.{noJob, jobAt}
+use Rattle.jobs.specs.declared.step.Answer.the-variants.{Moved, Done, Refused}
 use Rattle.jobs.specs.declared.step.Stepped.{Stepped}
-use Rattle.jobs.specs.Job.{noJob, jobAt}
 use Rattle.jobs.specs.Admit.{Handed}
 use Rattle.jobs.specs.Step.{doneNumber, numberOf, answerOf, stepNumber, stepDone, stepProj, stepSaved, names, turnNumber, turnProj, turnSaved}
 use Rattle.jobs.proofs.Steps as steps

@@ -8,7 +8,7 @@ use lib.ListN.{length}
 use Rattle.ground.specs.Put.{put}
 use Rattle.ground.specs.Script.{run}
 use Rattle.ground.proofs.Answers.{run-refused}
-use Rattle.jobs.specs.declared.job.Batch.{Batch}
+use Rattle.job.specs.declared.record.Batch.{Batch}
 use Rattle.order.specs.Desk.{Desk, desk}
 use Rattle.player.specs.Played.{playedAnswer, playedDesk}
 use Rattle.abi.specs.Captured.{shortSteps, shownAnswer, shownDesk, stepsOf, shownSteps}

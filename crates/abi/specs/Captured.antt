@@ -8,9 +8,9 @@ use Rattle.ground.specs.Answer.{accepted}
 use Rattle.ground.specs.Little.{fours}
 use Rattle.ground.specs.Pick.{pick}
 use Rattle.ground.specs.Script.{Patch}
-use Rattle.rows.specs.Table.{tab}
-use Rattle.jobs.specs.declared.job.Batch.{Batch}
-use Rattle.jobs.specs.Job.{jobAt}
+use Rattle.ground.specs.Tab.{tab}
+use Rattle.job.specs.declared.record.Batch.{Batch}
+use Rattle.job.specs.Job.{jobAt}
 use Rattle.order.specs.Desk.{Desk, desk}
 use Rattle.player.specs.Opened.{batchIn}
 use Rattle.player.specs.Played.{playedAnswer, playedDesk}

@@ -8,9 +8,9 @@ use Rattle.ground.specs.Pick.{pick}
 use Rattle.ground.specs.Answer.{accepted}
 use Rattle.ground.specs.Script.{Patch}
 use Rattle.ground.specs.Little.{fours}
-use Rattle.frame.specs.declared.description.Description.{Description}
+use Rattle.hints.specs.declared.description.Description.{Description}
 use Rattle.frame.specs.declared.record.Listed.{Listed}
-use Rattle.frame.specs.Description.{setupAnswer}
+use Rattle.hints.specs.Description.{setupAnswer}
 use Rattle.frame.specs.Record.{frameOf, checkAnswer, listedOf}
 use Rattle.layout.specs.FrameBytes.{frameAt, frameBytes}
 

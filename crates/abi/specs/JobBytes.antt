@@ -5,11 +5,11 @@ use lib.Dec.{ltb}
 use lib.ListN.{length}
 use Rattle.ground.specs.Pick.{pick}
 use Rattle.ground.specs.Little.{fourAt}
-use Rattle.rows.specs.Table.{tab}
-use Rattle.jobs.specs.declared.job.Job.{Job}
-use Rattle.jobs.specs.declared.job.Batch.{Batch}
-use Rattle.jobs.specs.Job.{noJob}
-use Rattle.jobs.specs.Bytes.{jobHeld}
+use Rattle.ground.specs.Tab.{tab}
+use Rattle.job.specs.declared.record.Job.{Job}
+use Rattle.job.specs.declared.record.Batch.{Batch}
+use Rattle.job.specs.Job.{noJob}
+use Rattle.job.specs.Bytes.{jobHeld}
 
 -- The job that any bytes hold from i on.
 abbrev pub jobFrom : List ℕ → ℕ → Job

@@ -9,9 +9,9 @@ use Rattle.ground.specs.Answer.{accepted}
 use Rattle.ground.specs.Script.{Patch}
 use Rattle.cells.specs.Block.{blockAt}
 use Rattle.rows.specs.declared.setup.TileRange.{TileRange}
-use Rattle.rows.specs.declared.splat.Splat.{Splat}
+use Rattle.splats.specs.declared.splat.Splat.{Splat}
 use Rattle.rows.specs.Setup.{tileOf, rowsAnswer}
-use Rattle.rows.specs.Splat.{splatAnswer, splatScript}
+use Rattle.splats.specs.Splat.{splatAnswer, splatScript}
 use Rattle.layout.specs.FrameBytes.{frameAt}
 use Rattle.layout.specs.TileBytes.{tileAt, tileBytes}
 use Rattle.abi.specs.Framed.{whole, shortFrame}

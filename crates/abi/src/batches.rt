@@ -3,11 +3,11 @@
 use crate::motions::load_lacks;
 use ground::read::size_at;
 use ground::write::put_size;
+use job::job_bytes::job_at;
+use job::job_bytes::no_job;
+use job::record::Batch;
+use job::record::Job;
 use jobs::admit::admit;
-use jobs::job::Batch;
-use jobs::job::Job;
-use jobs::job_bytes::job_at;
-use jobs::job_bytes::no_job;
 use jobs::step::number_of;
 use jobs::step::step_row;
 use layout::frame_bytes::frame_at;

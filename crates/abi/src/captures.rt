@@ -1,7 +1,7 @@
 // A capture played on lent bytes.
 use ground::write::put_sizes;
-use jobs::job::Batch;
-use jobs::job::Job;
+use job::record::Batch;
+use job::record::Job;
 use player::play::play_capture;
 ghost use mathlib.Core.Path.{_≡_};
 ghost use Prim.Native.Nat.{_≤_};

@@ -1,10 +1,10 @@
 // Frame setup, the check of a record and the listed sizes, on lent bytes.
-use frame::description::Description;
-use frame::description::admit;
 use frame::record::Listed;
 use frame::record::check;
 use frame::record::listed_sizes;
 use ground::write::put_sizes;
+use hints::description::Description;
+use hints::description::admit;
 use layout::frame_bytes::FRAME;
 use layout::frame_bytes::frame_at;
 use layout::frame_bytes::put_frame;
@@ -16,7 +16,7 @@ ghost use lib.ListN.{length};
 ghost use Rattle.ground.specs.Answer.{accepted};
 ghost use Rattle.ground.specs.Put.{put};
 ghost use Rattle.ground.specs.Script.{run};
-ghost use Rattle.frame.specs.Description.{setupAnswer};
+ghost use Rattle.hints.specs.Description.{setupAnswer};
 ghost use Rattle.frame.specs.Record.{frameOf};
 ghost use Rattle.layout.specs.DescriptionBytes.{described};
 ghost use Rattle.layout.specs.FrameBytes.{frameBytes};

@@ -1,5 +1,5 @@
-// Vectors and hint distances. A vector comes back as one number: y in the low 16 bits, x above.
-use ground::twos::half_bits;
+// Vectors and hint distances. A vector comes back as one number, since C has no struct in common with
+// us: y in the low 16 bits, x above.
 use vector::hint::get_poc_diff;
 use vector::mv::Mv;
 use vector::precision::fix_mv_precision;
@@ -7,33 +7,26 @@ use vector::projection::mv_projection;
 ghost use mathlib.Core.Path.{_≡_};
 ghost use Prim.Native.Nat.{_^_, _≤_, _<_};
 ghost use lib.IntN.{natAbs};
-ghost use Rattle.vector.specs.Vector.{Within, both};
+ghost use Rattle.vector.specs.Vector.{Within, both, mvBits};
 ghost use Rattle.vector.specs.Projection.{projected};
 ghost use Rattle.vector.specs.Precision.{lowered};
 ghost use Rattle.vector.specs.Hint.{distance};
-ghost use Rattle.abi.specs.Leaf.{mv, packed};
-
-// One number, since C has no struct in common with us.
-fn pack(v: Mv) -> u32
-    ensures { λ r. ⌜ r ≡ packed v ⌝ }
-{
-    half_bits(v.y) as u32 + 65536 * (half_bits(v.x) as u32)
-}
+ghost use Rattle.abi.specs.Leaf.{mv};
 
 #[no_mangle]
 pub extern "C" fn jaskkovir_mv_projection(y: i16, x: i16, num: i16, den: u32) -> u32
     requires { ⌜ Within 4095 (mv y x) × (natAbs num ≤ 31) × (0 < den) × (den < 32) ⌝ }
-    ensures { λ r. ⌜ r ≡ packed (both (projected num den) (mv y x)) ⌝ }
+    ensures { λ r. ⌜ r ≡ mvBits (both (projected num den) (mv y x)) ⌝ }
 {
-    pack(mv_projection(Mv { y, x }, num, den))
+    mv_projection(Mv { y, x }, num, den).bits()
 }
 
 #[no_mangle]
 pub extern "C" fn jaskkovir_fix_mv_precision(y: i16, x: i16, integer: bool, hp: bool) -> u32
     requires { ⌜ Within 16384 (mv y x) ⌝ }
-    ensures { λ r. ⌜ r ≡ packed (both (lowered integer hp) (mv y x)) ⌝ }
+    ensures { λ r. ⌜ r ≡ mvBits (both (lowered integer hp) (mv y x)) ⌝ }
 {
-    pack(fix_mv_precision(Mv { y, x }, integer, hp))
+    fix_mv_precision(Mv { y, x }, integer, hp).bits()
 }
 
 #[no_mangle]

@@ -2,10 +2,10 @@
 // length. A frame record crosses as 109 bytes and a tile as 168, by `layout`; a job as 17, by
 // batches; a search's question as 24, by `finds`.
 pub mod batches;
+mod blocks;
 pub mod captures;
 pub mod frames;
 pub mod leaves;
 pub mod motions;
 pub mod searches;
-mod splats;
 pub mod tiles;

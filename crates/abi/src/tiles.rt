@@ -1,5 +1,5 @@
 // Superblock-row setup and splat, on lent bytes.
-use crate::splats::splat;
+use crate::blocks::splat;
 use cells::block::Block;
 use cells::pos::Pos4;
 use layout::frame_bytes::FRAME;
@@ -10,7 +10,7 @@ use layout::tile_bytes::put_tile;
 use rows::setup::TileRange;
 use rows::setup::is_pass;
 use rows::setup::is_tile;
-use rows::splat::Splat;
+use splats::splat::Splat;
 ghost use mathlib.Core.Path.{_≡_};
 ghost use Prim.Native.Nat.{_≤_};
 ghost use lib.ListN.{length};

@@ -1,13 +1,13 @@
 -- A search looks at its block's places and cells, and at nothing else.
 -- Assumes nothing.
 use mathlib.Core.Path.{_≡_, sym, _∙_}
-use mathlib.Core.Bool.{true}
+use mathlib.Core.Bool.{Bool, true}
 use mathlib.Core.List.{List}
 use Prim.Native.Nat.{ℕ, _+_, _<_}
 use lib.Dec.{eqb}
 use lib.ListN.{length}
 use Rattle.frame.specs.declared.record.Frame.{Frame}
-use Rattle.frame.specs.Sizes.{records, projectedCells}
+use Rattle.extent.specs.Sizes.{records, projectedCells}
 use Rattle.rows.specs.declared.setup.Tile.{Tile}
 use Rattle.site.specs.Site.{Placed}
 use Rattle.neighbours.specs.declared.read.Read.{Read}
@@ -39,13 +39,14 @@ fieldAt f t a = fieldOf (f .sizes) t (siteOf t a)
 -- the records of a block's places read the same, and its cells where the temporal process looks at them
 module _ (read read′ : ℕ → ℕ → Read) (cells cells′ : ℕ → CellRead) (f : Frame) (t : Tile) (a : Ask) (placed : Placed (siteOf t a)) where
   module _ (places : SamePlaces (siteOf t a) read read′) (spots : timed f ≡ true → SameSpots (fieldAt f t a) (siteOf t a) cells cells′) where
-    same-end : (still : ℕ) (near all : State) → concluded read f t a still near all ≡ concluded read′ f t a still near all
+    same-end : (still count matched : ℕ) (newmv : Bool) (all : State)
+        → concluded read f t a still count matched newmv all ≡ concluded read′ f t a still count matched newmv all
     unfolding concluded
-    same-end still near all = λ i.
-        afterFound (extra-of read read′ (siteOf t a) placed places (biasesOf f) (a .refs) (globalOf a) (ordered (length (near .cands)) all) i) (λ s.
+    same-end still count matched newmv all = λ i.
+        afterFound (extra-of read read′ (siteOf t a) placed places (biasesOf f) (a .refs) (globalOf a) (ordered count all) i) (λ s.
         got
         (record {
-          context = contextOf (isRef (a .refs .second)) (matchesOf near) (matchesOf all) (near .newmv) still;
+          context = contextOf (isRef (a .refs .second)) matched (matchesOf all) newmv still;
           cands = clamped (reachOf (f .sizes) (siteOf t a)) s .cands;
           fill = globalOf a .first;
         }))
@@ -56,7 +57,7 @@ module _ (read read′ : ℕ → ℕ → Read) (cells cells′ : ℕ → CellRea
         let still = zero-where cells cells′ (aimOf f a) (fieldAt f t a) (siteOf t a) (timed f) (f .temporal) placed spots in
         λ i.
         afterFound (temporal-where cells cells′ (aimOf f a) (fieldAt f t a) (siteOf t a) (timed f) (raised s) spots i) (λ u.
-        afterWent (far-all read read′ (siteOf t a) placed places (wantOf a) above left u i) (λ v r c. same-end (still i) s v i))
+        afterWent (far-all read read′ (siteOf t a) placed places (wantOf a) above left u i) (λ v r c. same-end (still i) (length (s .cands)) (matchesOf s) (s .newmv) v i))
 
     pub same-reads : searchOf read cells f t a ≡ searchOf read′ cells′ f t a
     unfolding searchOf

@@ -9,7 +9,7 @@ use lib.Dec.{eqb}
 use lib.ListN.{length, length-map}
 use Rattle.ground.specs.Pick.{pick}
 use Rattle.frame.specs.declared.record.Frame.{Frame}
-use Rattle.frame.specs.Sizes.{records, projectedCells}
+use Rattle.extent.specs.Sizes.{records, projectedCells}
 use Rattle.rows.specs.declared.setup.Tile.{Tile}
 use Rattle.neighbours.specs.declared.read.Read.{Read}
 use Rattle.neighbours.specs.Neighbour.{readAt}
@@ -26,6 +26,7 @@ use Rattle.around.specs.Around.{Went, nearAll, farAll}
 use Rattle.around.specs.Around as around
 use Rattle.front.specs.declared.ask.Ask.{Ask}
 use Rattle.front.specs.Ask.{findFront, wantOf, globalOf, siteOf}
+use Rattle.front.specs.Context.{matchesOf}
 use Rattle.search.specs.Parts.{aimOf, fieldOf, temporalWhere, zeroWhere}
 use Rattle.search.specs.Extend.{biasesOf, extraOf}
 use Rattle.search.specs.Find.{Finding, Result, refused, got, afterWent, afterFound, reachOf, concluded, timed, goneOn, searchOf, findOf}
@@ -66,11 +67,10 @@ module _ (read : ℕ → ℕ → Read) (cells : ℕ → CellRead) (f : Frame) (t
   reach = reachOf (f .sizes) (siteOf t a)
 
   -- from the sort on, from the near neighbours on, and the whole
-  conclusion : (still : ℕ) (near all : State) → Kept (length (near .cands)) (all .cands)
-      → Gotten (Sound (length (near .cands)) reach) (concluded read f t a still near all)
+  conclusion : (still n matched : ℕ) (newmv : Bool) (all : State) → Kept n (all .cands)
+      → Gotten (Sound n reach) (concluded read f t a still n matched newmv all)
   unfolding concluded
-  conclusion still near all k =
-      let n = length (near .cands) in
+  conclusion still n matched newmv all k =
       after-found (Laid n) (Sound n reach) (extraOf read (siteOf t a) (biasesOf f) (a .refs) (globalOf a) (ordered n all)) _
       (extra-of n read (siteOf t a) (biasesOf f) (a .refs) (globalOf a) (ordered n all) (kept-ordered n all k) (parts-ordered n all k))
       (λ s h. sound-clamped n reach s _ refl h)
@@ -84,7 +84,7 @@ module _ (read : ℕ → ℕ → Read) (cells : ℕ → CellRead) (f : Frame) (t
       after-found (Kept n) (Sound n reach) (temporalWhere (timed f) cells (aimOf f a) field (siteOf t a) (raised s)) _
       (temporal-where n cells (aimOf f a) (timed f) field (siteOf t a) (raised s) (keeps-raised s k)) (λ u h.
       after-went (Kept n) (Sound n reach) (farAll read (siteOf t a) above left (wantOf a) u) _ (far-all n read (siteOf t a) (wantOf a) above left u h) (λ v r c i.
-      conclusion still s v i))
+      conclusion still n (matchesOf s) (s .newmv) v i))
 
   searched : Gotten (Sound (nearCount read t a) reach) (searchOf read cells f t a)
   unfolding searchOf nearCount

@@ -4,7 +4,7 @@ use mathlib.Core.Path.{_≡_, refl}
 use mathlib.Core.Bool.{Bool, true, false}
 use Prim.Native.Nat.{ℕ, _+_, _-_}
 use Rattle.site.specs.declared.block.Site.{Site}
-use Rattle.stack.specs.Stack.{State, view, nothing}
+use Rattle.stack.specs.Stack.{State, Found, view, nothing}
 use Rattle.neighbours.specs.declared.read.Read.{Read}
 use Rattle.neighbours.specs.declared.want.Want.{Want}
 use Rattle.spatial.specs.declared.scan.Scan.{Scan}
@@ -14,47 +14,48 @@ use Rattle.around.specs.Around.{on, went, nearOf, hasRight, pointWhere, 
 use Rattle.around.proofs.Steps.{by, goes-on, stops, went-on, went-not, ends}
 
 -- the returns of `near`
-module _ (read : ℕ → ℕ → Read) (b : Site) (decoded : Bool) (q : Want) {s : State} (z : s ≡ nothing) (row : Scan) (e : outcome row ≡ nearOf read b false q s) where
-  pub near-row-not : (row .answer ≡ 0 → ⊥) → went (by row 0 0) ≡ nearAll read b decoded q
+module _ (read : ℕ → ℕ → Read) (b : Site) (decoded : Bool) (q : Want) {s : State} (z : s ≡ nothing)
+    (row : Scan) (f : Found) (e : outcome row f ≡ nearOf read b false q s) where
+  pub near-row-not : (row .answer ≡ 0 → ⊥) → went (by row 0 0) f ≡ nearAll read b decoded q
   unfolding nearAll
-  near-row-not n = rw (← z, ← e, stops row n) (went-not (by row 0 0) n)
+  near-row-not n = rw (← z, ← e, stops row f n) (went-not (by row 0 0) f n)
 
-  module _ (h : row .answer ≡ 0) (column : Scan) (d : outcome column ≡ nearOf read b true q (view (row .found))) where
-    pub near-column-not : (column .answer ≡ 0 → ⊥) → went (by column 0 0) ≡ nearAll read b decoded q
+  module _ (h : row .answer ≡ 0) (column : Scan) (g : Found) (d : outcome column g ≡ nearOf read b true q (view f)) where
+    pub near-column-not : (column .answer ≡ 0 → ⊥) → went (by column 0 0) g ≡ nearAll read b decoded q
     unfolding nearAll
-    near-column-not n = rw (← z, ← e, goes-on row h, ← d, stops column n) (went-not (by column 0 0) n)
+    near-column-not n = rw (← z, ← e, goes-on row f h, ← d, stops column g n) (went-not (by column 0 0) g n)
 
-    pub near-ends : column .answer ≡ 0 → (right : Scan)
-        → outcome right ≡ pointWhere (hasRight b decoded) read b (b .x .0 + b .w .0) q (view (column .found))
-        → went (by right (row .reach) (column .reach)) ≡ nearAll read b decoded q
+    pub near-ends : column .answer ≡ 0 → (right : Scan) (t : Found)
+        → outcome right t ≡ pointWhere (hasRight b decoded) read b (b .x .0 + b .w .0) q (view g)
+        → went (by right (row .reach) (column .reach)) t ≡ nearAll read b decoded q
     unfolding nearAll
-    near-ends i right k =
-        rw (← z, ← e, goes-on row h, ← d, goes-on column i, ← k)
-        (ends right (row .reach) (column .reach) (λ u r. on u (row .reach) (column .reach)) refl)
+    near-ends i right t k =
+        rw (← z, ← e, goes-on row f h, ← d, goes-on column g i, ← k)
+        (ends right t (row .reach) (column .reach) (λ u r. on u (row .reach) (column .reach)) refl)
 
 -- those of `round`
-module _ (read : ℕ → ℕ → Read) (b : Site) (n : ℕ) (q : Want) (a : Around) where
-  pub round-not : (a .answer ≡ 0 → ⊥) → went a ≡ roundOf read b n q (went a)
+module _ (read : ℕ → ℕ → Read) (b : Site) (n : ℕ) (q : Want) (a : Around) (s : Found) where
+  pub round-not : (a .answer ≡ 0 → ⊥) → went a s ≡ roundOf read b n q (went a s)
   unfolding roundOf
-  round-not m = rw (went-not a m)
+  round-not m = rw (went-not a s m)
 
-  module _ (g : a .answer ≡ 0) (row : Scan) (e : outcome row ≡ farOf read b false n (a .above) q (view (a .found))) where
-    pub round-row-not : (row .answer ≡ 0 → ⊥) → went (by row 0 0) ≡ roundOf read b n q (went a)
+  module _ (z : a .answer ≡ 0) (row : Scan) (f : Found) (e : outcome row f ≡ farOf read b false n (a .above) q (view s)) where
+    pub round-row-not : (row .answer ≡ 0 → ⊥) → went (by row 0 0) f ≡ roundOf read b n q (went a s)
     unfolding roundOf
-    round-row-not m = rw (went-on a g, ← e, stops row m) (went-not (by row 0 0) m)
+    round-row-not m = rw (went-on a s z, ← e, stops row f m) (went-not (by row 0 0) f m)
 
-    pub round-ends : row .answer ≡ 0 → (column : Scan) → outcome column ≡ farOf read b true n (a .left) q (view (row .found))
-        → went (by column (row .reach) (column .reach)) ≡ roundOf read b n q (went a)
+    pub round-ends : row .answer ≡ 0 → (column : Scan) (g : Found) → outcome column g ≡ farOf read b true n (a .left) q (view f)
+        → went (by column (row .reach) (column .reach)) g ≡ roundOf read b n q (went a s)
     unfolding roundOf
-    round-ends h column d =
-        rw (went-on a g, ← e, goes-on row h, ← d)
-        (ends column (row .reach) (column .reach) (λ u r. on u (row .reach) r) refl)
+    round-ends h column g d =
+        rw (went-on a s z, ← e, goes-on row f h, ← d)
+        (ends column g (row .reach) (column .reach) (λ u r. on u (row .reach) r) refl)
 
--- and that of `far`
-pub far-ends : (read : ℕ → ℕ → Read) (b : Site) (above left : ℕ) (q : Want) (s : State) (corner : Scan) (two three : Around)
-    → outcome corner ≡ pointWhere (hasLeft b) read b (b .x .0 - 1) q s
-    → went two ≡ roundOf read b 2 q (went (by corner above left)) → went three ≡ roundOf read b 3 q (went two)
-    → went three ≡ farAll read b above left q s
+-- and that of `far`: what was found at the corner, and after each round
+pub far-ends : (read : ℕ → ℕ → Read) (b : Site) (above left : ℕ) (q : Want) (s : State) (corner : Scan) (two three : Around) (f g h : Found)
+    → outcome corner f ≡ pointWhere (hasLeft b) read b (b .x .0 - 1) q s
+    → went two g ≡ roundOf read b 2 q (went (by corner above left) f) → went three h ≡ roundOf read b 3 q (went two g)
+    → went three h ≡ farAll read b above left q s
 unfolding farAll
-far-ends read b above left q s corner two three e d k =
-    rw (k, d, ← e, ends corner above left (λ t r. on t above left) refl)
+far-ends read b above left q s corner two three f g h e d k =
+    rw (k, d, ← e, ends corner f above left (λ t r. on t above left) refl)

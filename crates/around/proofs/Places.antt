@@ -64,15 +64,15 @@ module _ {ntile nrecs total : ℕ} (l : Lent ntile nrecs total) (b : Site) (p : 
   far-room false n = room _ (omega (arith, row-most b)) (omega (arith, odd-most (b .x .0), p .before, p .wide))
 
 -- and of its span
-module _ {count heft : ℕ} (r : count ≤ 8) (l : heft < 2 ^ 30) (b : Site) (p : Placed b) (down : Bool) where
-  pub near-fair : Fair count heft (nearSpan down b)
+module _ {heft : ℕ} (l : heft < 2 ^ 30) (b : Site) (p : Placed b) (down : Bool) where
+  pub near-fair : Fair heft (nearSpan down b)
   unfolding nearSpan
   near-fair =
       let s = step-fits (sideOf down b) 1 (lit≤ tt) (lit≤ tt) in
-      record { room = r; light = l; size = side-most down b p; span = limit-most down b; rows = depth-most down b; one = s .0; few = s .1 }
+      record { light = l; size = side-most down b p; span = limit-most down b; rows = depth-most down b; one = s .0; few = s .1 }
 
-  pub far-fair : (n : ℕ) → 2 ≤ n → Fair count heft (farSpan down b n)
+  pub far-fair : (n : ℕ) → 2 ≤ n → Fair heft (farSpan down b n)
   unfolding farSpan
   far-fair n h =
       let s = step-fits (sideOf down b) 2 (lit≤ tt) (lit≤ tt) in
-      record { room = r; light = l; size = side-most down b p; span = limit-most down b; rows = omega (arith, depth-most down b); one = s .0; few = s .1 }
+      record { light = l; size = side-most down b p; span = limit-most down b; rows = omega (arith, depth-most down b); one = s .0; few = s .1 }

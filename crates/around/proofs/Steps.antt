@@ -2,14 +2,14 @@
 -- Assumes nothing.
 use mathlib.Core.Path.{_≡_, refl, _∙_, ap}
 use mathlib.Core.Bool.{Bool, true, false}
-use Prim.Native.Nat.{ℕ, _+_, _≤_, _<_}
-use lib.Dec.{eqb}
+use Prim.Native.Nat.{ℕ, _+_, _^_, _≤_, _<_}
+use native.Mathlib.Omega.{arith}
+use lib.Dec.{eqb, lit≤}
 use borrow.Author.Tests.{eq-eqb, ne-eqb, lt-leb, le-ltb}
 use Rattle.ground.specs.Pick.{pick}
 use Rattle.site.specs.declared.block.Site.{Site}
 use Rattle.site.specs.Site.{depthOf}
-use Rattle.stack.specs.declared.candidate.Found.{Found}
-use Rattle.stack.specs.Stack.{State, live, view, heft}
+use Rattle.stack.specs.Stack.{State, Found, live, view, heft}
 use Rattle.neighbours.specs.declared.read.Line.{Line}
 use Rattle.neighbours.specs.declared.read.Read.{Read}
 use Rattle.neighbours.specs.declared.want.Want.{Want}
@@ -20,58 +20,74 @@ use Rattle.spatial.specs.Scan.{Outcome, outcome, found, scanOf}
 use Rattle.spatial.specs.Scan as scans
 use Rattle.around.specs.declared.near.Around.{Around}
 use Rattle.around.specs.Lines.{nearLine, farLine, nearSpan, farSpan}
-use Rattle.around.specs.Around.{Went, refused, on, went, onScan, nearOf, farther, farOf}
+use Rattle.around.specs.Around.{Went, refused, on, went, onScan, nearOf, farther, farOf, Light}
 use Rattle.around.proofs.Places.{near-down, far-down}
 
--- nothing that was found weighs nothing
-pub no-heft : (s : Found) → s .count ≡ 0 → heft (live s) ≡ 0
+-- nothing that was found weighs nothing, and each scan adds to it
+pub no-heft : (s : Found) → s .count ≡ 0 → heft (live s) ≤ 0
 unfolding live heft
-no-heft s e = rw e
+no-heft s e = rw e (lit≤ tt)
+
+pub more : {a b : ℕ} (m w : ℕ) → b ≤ m → a ≤ b + w → a ≤ m + w
+more m w h i = omega arith
+
+pub two-more : {a b : ℕ} (h : ℕ) → b ≤ h + 512 → a ≤ b + 512 → a ≤ h + 1024
+two-more h i j = omega arith
+
+pub light : {h : ℕ} (n : ℕ) → h ≤ n → n ≤ 1024 → Light h
+light n h i = record { light = omega arith }
+
+-- what the rounds of `far` start from: the corner, and then the first of them
+pub corner-light : {a b : ℕ} → Light b → a ≤ b + 4 → a < 2 ^ 25
+corner-light l h = omega (arith, l .light)
+
+pub round-light : {a b d : ℕ} → Light d → b ≤ d + 4 → a ≤ b + 1024 → a < 2 ^ 25
+round-light l h i = omega (arith, l .light)
 
 -- what `around_by` makes of a scan
 abbrev pub by : Scan → ℕ → ℕ → Around
-by r above left = record { found = r .found; answer = r .answer; above = above; left = left }
+by r above left = record { answer = r .answer; above = above; left = left }
 
 -- a scan, and what has gone before, goes on or is refused
-module _ (r : Scan) where
-  pub goes-on : r .answer ≡ 0 → outcome r ≡ found (view (r .found)) (r .reach)
+module _ (r : Scan) (s : Found) where
+  pub goes-on : r .answer ≡ 0 → outcome r s ≡ found (view s) (r .reach)
   unfolding outcome
   goes-on e = rw (eq-eqb (r .answer) 0 e)
 
-  pub stops : (r .answer ≡ 0 → ⊥) → outcome r ≡ scans.refused (r .answer)
+  pub stops : (r .answer ≡ 0 → ⊥) → outcome r s ≡ scans.refused (r .answer)
   unfolding outcome
   stops n = rw (ne-eqb (r .answer) 0 n)
 
-module _ (a : Around) where
-  pub went-on : a .answer ≡ 0 → went a ≡ on (view (a .found)) (a .above) (a .left)
+module _ (a : Around) (s : Found) where
+  pub went-on : a .answer ≡ 0 → went a s ≡ on (view s) (a .above) (a .left)
   unfolding went
   went-on e = rw (eq-eqb (a .answer) 0 e)
 
-  pub went-not : (a .answer ≡ 0 → ⊥) → went a ≡ refused (a .answer)
+  pub went-not : (a .answer ≡ 0 → ⊥) → went a s ≡ refused (a .answer)
   unfolding went
   went-not n = rw (ne-eqb (a .answer) 0 n)
 
 -- the last scan, whatever its answer
-pub ends : (r : Scan) (above left : ℕ) (f : State → ℕ → Went) → on (view (r .found)) above left ≡ f (view (r .found)) (r .reach)
-    → went (by r above left) ≡ onScan (outcome r) f
+pub ends : (r : Scan) (s : Found) (above left : ℕ) (f : State → ℕ → Went) → on (view s) above left ≡ f (view s) (r .reach)
+    → went (by r above left) s ≡ onScan (outcome r s) f
 unfolding outcome went
-ends r above left f e = cases (eqb (r .answer) 0)
+ends r s above left f e = cases (eqb (r .answer) 0)
   where
     cases : (t : Bool)
-        → pick t (on (view (r .found)) above left) (refused (r .answer))
-        ≡ onScan (pick t (found (view (r .found)) (r .reach)) (scans.refused (r .answer))) f
+        → pick t (on (view s) above left) (refused (r .answer))
+        ≡ onScan (pick t (found (view s) (r .reach)) (scans.refused (r .answer))) f
     cases true = e
     cases false = refl
 
 -- a scan's reach goes on top of that of the nearer lines
-pub reaches : (r : Scan) (reach : ℕ)
-    → outcome (record { found = r .found; answer = r .answer; reach = reach + r .reach }) ≡ farther reach (outcome r)
+pub reaches : (r : Scan) (s : Found) (reach : ℕ)
+    → outcome (record { answer = r .answer; reach = reach + r .reach }) s ≡ farther reach (outcome r s)
 unfolding outcome
-reaches r reach = cases (eqb (r .answer) 0)
+reaches r s reach = cases (eqb (r .answer) 0)
   where
     cases : (t : Bool)
-        → pick t (found (view (r .found)) (reach + r .reach)) (scans.refused (r .answer))
-        ≡ farther reach (pick t (found (view (r .found)) (r .reach)) (scans.refused (r .answer)))
+        → pick t (found (view s) (reach + r .reach)) (scans.refused (r .answer))
+        ≡ farther reach (pick t (found (view s) (r .reach)) (scans.refused (r .answer)))
     cases true = refl
     cases false = refl
 

@@ -10,7 +10,7 @@ use Rattle.neighbours.specs.declared.want.Want.{Want}
 use Rattle.neighbours.specs.Neighbour.{lineAt}
 use Rattle.spatial.specs.Scan.{Outcome, scanOf, pointOf}
 use Rattle.spatial.specs.Scan as scans
-use Rattle.stack.specs.Stack.{State, view, nothing}
+use Rattle.stack.specs.Stack.{State, Found, view, nothing}
 use Rattle.around.specs.declared.near.Around.{Around}
 use Rattle.around.specs.Lines.{rowOf, nearLine, farLine, nearSpan, farSpan}
 
@@ -19,8 +19,8 @@ pub data Went : Type 0 where
   refused : ℕ → Went
   on : State → ℕ → ℕ → Went
 
-unfoldable pub went : Around → Went
-went a = pick (eqb (a .answer) 0) (on (view (a .found)) (a .above) (a .left)) (refused (a .answer))
+unfoldable pub went : Around → Found → Went
+went a s = pick (eqb (a .answer) 0) (on (view s) (a .above) (a .left)) (refused (a .answer))
 
 abbrev pub onScan : Outcome → (State → ℕ → Went) → Went
 onScan (scans.refused n) f = refused n
@@ -82,6 +82,5 @@ pub record Lent (ntile nrecs total : ℕ) : Type 0 where
   pub tile : 168 ≤ ntile
   pub recs : 12 * total ≤ nrecs
 
-pub record Light (count heft : ℕ) : Type 0 where
-  pub room : count ≤ 8
+pub record Light (heft : ℕ) : Type 0 where
   pub light : heft < 2 ^ 24

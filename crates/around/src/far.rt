@@ -8,14 +8,13 @@ use neighbours::want::Want;
 use site::block::Site;
 use spatial::scan::Scan;
 use spatial::scan::scan_line;
-use stack::candidate::Found;
 ghost use mathlib.Core.Path.{_≡_};
 ghost use Prim.Native.Nat.{_+_, _-_, _^_, _≤_, _<_};
 ghost use lib.ListN.{length};
 ghost use Rattle.layout.specs.TileBytes.{tileAt};
 ghost use Rattle.neighbours.specs.Neighbour.{readAt};
 ghost use Rattle.spatial.specs.Scan.{outcome};
-ghost use Rattle.stack.specs.Stack.{live, view, heft};
+ghost use Rattle.stack.specs.Numbers.{foundAt, viewAt, heftAt, Held};
 ghost use Rattle.site.specs.Site.{Placed};
 ghost use Rattle.around.specs.Around.{went, farOf, hasLeft, roundOf, farAll, Lent, Light};
 
@@ -31,17 +30,13 @@ fn scan_far(
     n: usize,
     reach: usize,
     q: Want,
-    s: Found,
+    s: &mut [u64],
 ) -> Scan
-    requires { ⌜ Lent (length (now tile)) (length (now recs)) total × Placed b × (s .count ≤ 8) × (heft (live s) < 2 ^ 26) × (2 ≤ n) × (n ≤ 3) × (reach ≤ 64) ⌝ }
-    ensures { λ r. ⌜ (r .found .count ≤ 8) × (heft (live (r .found)) ≤ heft (live s) + 512) × (r .reach ≤ reach + 16) ⌝ }
-    ensures { λ r. ⌜ outcome r ≡ farOf (readAt (tileAt (now (tile .entry)) .rows) (now (recs .entry)) total) b down n reach q (view s) ⌝ }
+    requires { ⌜ Lent (length (now tile)) (length (now recs)) total × Placed b × Held (now s) × (heftAt (now s) < 2 ^ 26) × (2 ≤ n) × (n ≤ 3) × (reach ≤ 64) ⌝ }
+    ensures { λ r. ⌜ Held (now (s .exit)) × (heftAt (now (s .exit)) ≤ heftAt (now (s .entry)) + 512) × (r .reach ≤ reach + 16) ⌝ }
+    ensures { λ r. ⌜ outcome r (foundAt (now (s .exit))) ≡ farOf (readAt (tileAt (now (tile .entry)) .rows) (now (recs .entry)) total) b down n reach q (viewAt (now (s .entry))) ⌝ }
 {
-    let none = Scan {
-        found: s,
-        answer: 0,
-        reach,
-    };
+    let none = Scan { answer: 0, reach };
     if n <= reach {
         return none;
     }
@@ -57,28 +52,35 @@ fn scan_far(
         far_span(b, down, n),
         s,
     );
-    let found = r.found;
     Scan {
-        found,
         answer: r.answer,
         reach: reach + r.reach,
     }
 }
 
 // Line n of both sides.
-fn round(tile: &[u8], recs: &[u8], total: usize, b: Site, n: usize, q: Want, a: Around) -> Around
-    requires { ⌜ Lent (length (now tile)) (length (now recs)) total × Placed b × (a .found .count ≤ 8) × (heft (live (a .found)) < 2 ^ 25) × (2 ≤ n) × (n ≤ 3) × (a .above ≤ 32) × (a .left ≤ 32) ⌝ }
-    ensures { λ r. ⌜ (r .found .count ≤ 8) × (heft (live (r .found)) ≤ heft (live (a .found)) + 1024) × (r .above ≤ a .above + 16) × (r .left ≤ a .left + 16) ⌝ }
-    ensures { λ r. ⌜ went r ≡ roundOf (readAt (tileAt (now (tile .entry)) .rows) (now (recs .entry)) total) b n q (went a) ⌝ }
+fn round(
+    tile: &[u8],
+    recs: &[u8],
+    total: usize,
+    b: Site,
+    n: usize,
+    q: Want,
+    a: Around,
+    s: &mut [u64],
+) -> Around
+    requires { ⌜ Lent (length (now tile)) (length (now recs)) total × Placed b × Held (now s) × (heftAt (now s) < 2 ^ 25) × (2 ≤ n) × (n ≤ 3) × (a .above ≤ 32) × (a .left ≤ 32) ⌝ }
+    ensures { λ r. ⌜ Held (now (s .exit)) × (heftAt (now (s .exit)) ≤ heftAt (now (s .entry)) + 1024) × (r .above ≤ a .above + 16) × (r .left ≤ a .left + 16) ⌝ }
+    ensures { λ r. ⌜ went r (foundAt (now (s .exit))) ≡ roundOf (readAt (tileAt (now (tile .entry)) .rows) (now (recs .entry)) total) b n q (went a (foundAt (now (s .entry)))) ⌝ }
 {
     if a.answer != 0 {
         return a;
     }
-    let row = scan_far(tile, recs, total, b, false, n, a.above, q, a.found);
+    let row = scan_far(tile, recs, total, b, false, n, a.above, q, s);
     if row.answer != 0 {
         return around_by(row, 0, 0);
     }
-    let column = scan_far(tile, recs, total, b, true, n, a.left, q, row.found);
+    let column = scan_far(tile, recs, total, b, true, n, a.left, q, s);
     around_by(column, row.reach, column.reach)
 }
 
@@ -112,14 +114,14 @@ pub fn far(
     above: usize,
     left: usize,
     q: Want,
-    s: Found,
+    s: &mut [u64],
 ) -> Around
-    requires { ⌜ Lent (length (now tile)) (length (now recs)) total × Placed b × Light (s .count) (heft (live s)) × (above ≤ 16) × (left ≤ 16) ⌝ }
-    ensures { λ r. ⌜ r .found .count ≤ 8 ⌝ }
-    ensures { λ r. ⌜ went r ≡ farAll (readAt (tileAt (now (tile .entry)) .rows) (now (recs .entry)) total) b above left q (view s) ⌝ }
+    requires { ⌜ Lent (length (now tile)) (length (now recs)) total × Placed b × Held (now s) × Light (heftAt (now s)) × (above ≤ 16) × (left ≤ 16) ⌝ }
+    ensures { λ r. ⌜ Held (now (s .exit)) ⌝ }
+    ensures { λ r. ⌜ went r (foundAt (now (s .exit))) ≡ farAll (readAt (tileAt (now (tile .entry)) .rows) (now (recs .entry)) total) b above left q (viewAt (now (s .entry))) ⌝ }
 {
     let corner = point_where(has_left(b), tile, recs, total, b, before(b), q, s);
     let one = around_by(corner, above, left);
-    let two = round(tile, recs, total, b, 2, q, one);
-    round(tile, recs, total, b, 3, q, two)
+    let two = round(tile, recs, total, b, 2, q, one, s);
+    round(tile, recs, total, b, 3, q, two, s)
 }

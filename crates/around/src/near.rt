@@ -7,36 +7,41 @@ use site::block::Site;
 use spatial::scan::Scan;
 use spatial::scan::point;
 use spatial::scan::scan_line;
-use stack::candidate::Found;
-use stack::candidate::nothing_found;
+use stack::numbers::clear;
 ghost use mathlib.Core.Path.{_≡_};
 ghost use Prim.Native.Nat.{_+_, _≤_};
 ghost use lib.ListN.{length};
 ghost use Rattle.layout.specs.TileBytes.{tileAt};
 ghost use Rattle.neighbours.specs.Neighbour.{readAt};
 ghost use Rattle.spatial.specs.Scan.{outcome};
-ghost use Rattle.stack.specs.Stack.{live, view, heft};
+ghost use Rattle.stack.specs.Numbers.{foundAt, viewAt, heftAt, Held};
 ghost use Rattle.site.specs.Site.{Placed};
 ghost use Rattle.around.specs.Around.{went, nearOf, hasRight, pointWhere, nearAll, Lent, Light};
 
 // above and left are how many lines of neighbours the scans of either side stand for. answer is 0, or
-// a refusal, and then nothing is meant by the others.
+// a refusal, and then nothing is meant by the others, nor by what was found.
 pub struct Around {
-    pub found: Found,
     pub answer: u8,
     pub above: usize,
     pub left: usize,
 }
 
 // At the tile's edge there is none.
-fn scan_near(tile: &[u8], recs: &[u8], total: usize, b: Site, down: bool, q: Want, s: Found) -> Scan
-    requires { ⌜ Lent (length (now tile)) (length (now recs)) total × Placed b × Light (s .count) (heft (live s)) ⌝ }
-    ensures { λ r. ⌜ (r .found .count ≤ 8) × (heft (live (r .found)) ≤ heft (live s) + 512) × (r .reach ≤ 16) ⌝ }
-    ensures { λ r. ⌜ outcome r ≡ nearOf (readAt (tileAt (now (tile .entry)) .rows) (now (recs .entry)) total) b down q (view s) ⌝ }
+fn scan_near(
+    tile: &[u8],
+    recs: &[u8],
+    total: usize,
+    b: Site,
+    down: bool,
+    q: Want,
+    s: &mut [u64],
+) -> Scan
+    requires { ⌜ Lent (length (now tile)) (length (now recs)) total × Placed b × Held (now s) × Light (heftAt (now s)) ⌝ }
+    ensures { λ r. ⌜ Held (now (s .exit)) × (heftAt (now (s .exit)) ≤ heftAt (now (s .entry)) + 512) × (r .reach ≤ 16) ⌝ }
+    ensures { λ r. ⌜ outcome r (foundAt (now (s .exit))) ≡ nearOf (readAt (tileAt (now (tile .entry)) .rows) (now (recs .entry)) total) b down q (viewAt (now (s .entry))) ⌝ }
 {
     if b.depth(down) == 0 {
         return Scan {
-            found: s,
             answer: 0,
             reach: 0,
         };
@@ -81,44 +86,50 @@ pub(crate) fn point_where(
     b: Site,
     col: usize,
     q: Want,
-    s: Found,
+    s: &mut [u64],
 ) -> Scan
-    requires { ⌜ Lent (length (now tile)) (length (now recs)) total × Light (s .count) (heft (live s)) ⌝ }
-    ensures { λ r. ⌜ (r .found .count ≤ 8) × (heft (live (r .found)) ≤ heft (live s) + 4) ⌝ }
-    ensures { λ r. ⌜ outcome r ≡ pointWhere here (readAt (tileAt (now (tile .entry)) .rows) (now (recs .entry)) total) b col q (view s) ⌝ }
+    requires { ⌜ Lent (length (now tile)) (length (now recs)) total × Held (now s) × Light (heftAt (now s)) ⌝ }
+    ensures { λ r. ⌜ Held (now (s .exit)) × (heftAt (now (s .exit)) ≤ heftAt (now (s .entry)) + 4) ⌝ }
+    ensures { λ r. ⌜ outcome r (foundAt (now (s .exit))) ≡ pointWhere here (readAt (tileAt (now (tile .entry)) .rows) (now (recs .entry)) total) b col q (viewAt (now (s .entry))) ⌝ }
 {
     if here {
         return point(tile, recs, total, row_of(b) + 4, col, q, s);
     }
     Scan {
-        found: s,
         answer: 0,
         reach: 0,
     }
 }
 
 pub(crate) fn around_by(r: Scan, above: usize, left: usize) -> Around
-    ensures { λ a. ⌜ a ≡ record { found = r .found; answer = r .answer; above = above; left = left } ⌝ }
+    ensures { λ a. ⌜ a ≡ record { answer = r .answer; above = above; left = left } ⌝ }
 {
-    let found = r.found;
     Around {
-        found,
         answer: r.answer,
         above,
         left,
     }
 }
 
-pub fn near(tile: &[u8], recs: &[u8], total: usize, b: Site, decoded: bool, q: Want) -> Around
-    requires { ⌜ Lent (length (now tile)) (length (now recs)) total × Placed b ⌝ }
-    ensures { λ r. ⌜ (r .found .count ≤ 8) × (heft (live (r .found)) ≤ 1028) × (r .above ≤ 16) × (r .left ≤ 16) ⌝ }
-    ensures { λ r. ⌜ went r ≡ nearAll (readAt (tileAt (now (tile .entry)) .rows) (now (recs .entry)) total) b decoded q ⌝ }
+pub fn near(
+    tile: &[u8],
+    recs: &[u8],
+    total: usize,
+    b: Site,
+    decoded: bool,
+    q: Want,
+    s: &mut [u64],
+) -> Around
+    requires { ⌜ Lent (length (now tile)) (length (now recs)) total × Placed b × (length (now s) ≡ 20) ⌝ }
+    ensures { λ r. ⌜ Held (now (s .exit)) × (heftAt (now (s .exit)) ≤ 1028) × (r .above ≤ 16) × (r .left ≤ 16) ⌝ }
+    ensures { λ r. ⌜ went r (foundAt (now (s .exit))) ≡ nearAll (readAt (tileAt (now (tile .entry)) .rows) (now (recs .entry)) total) b decoded q ⌝ }
 {
-    let row = scan_near(tile, recs, total, b, false, q, nothing_found());
+    clear(s);
+    let row = scan_near(tile, recs, total, b, false, q, s);
     if row.answer != 0 {
         return around_by(row, 0, 0);
     }
-    let column = scan_near(tile, recs, total, b, true, q, row.found);
+    let column = scan_near(tile, recs, total, b, true, q, s);
     if column.answer != 0 {
         return around_by(column, 0, 0);
     }
@@ -130,7 +141,7 @@ pub fn near(tile: &[u8], recs: &[u8], total: usize, b: Site, decoded: bool, q: W
         b,
         b.x.0 + b.w.0,
         q,
-        column.found,
+        s,
     );
     around_by(right, row.reach, column.reach)
 }

@@ -5,7 +5,7 @@ use mathlib.Core.Logic.{_⊎_}
 use mathlib.Core.List.{List}
 use lib.ListN.{take, drop}
 use Rattle.ground.specs.Little.{fourAt, held16}
-use Rattle.frame.specs.declared.description.Description.{Description}
+use Rattle.hints.specs.declared.description.Description.{Description}
 use Rattle.frame.specs.declared.record.Frame.{Frame}
 use Rattle.rows.specs.declared.setup.TileRange.{TileRange}
 use Rattle.cases.specs.declared.damage.Damage.{Damage}

@@ -1,15 +1,15 @@
 // One field of a finished record replaced, by its number (rust/README.md has the table).
 use cells::pos::Pos4;
 use cells::pos::Pos8;
-use frame::distances::RefHint;
+use extent::sizes::Sizes;
 use frame::mfmv::Mfmv;
 use frame::mfmv::Ref2Cur;
 use frame::record::Frame;
-use frame::sizes::Sizes;
 use ground::read::byte_at;
 use ground::read::i16_at;
 use ground::read::size_at;
 use ground::read::u32_at;
+use hints::distances::RefHint;
 ghost use mathlib.Core.Path.{_≡_};
 ghost use Prim.Native.Nat.{_≤_, _<_};
 ghost use lib.Dec.{leb};

@@ -1,11 +1,11 @@
 // A frame's description and the flags of its references: nine numbers of four bytes, 7 hints, 49
 // hints by reference, 7 present flags, a zero.
-use frame::description::Description;
 use frame::setup::Setup;
 use frame::setup::init_frame;
 use ground::read::byte_at;
 use ground::read::size_at;
 use ground::read::u32_at;
+use hints::description::Description;
 ghost use mathlib.Core.Path.{_≡_};
 ghost use Prim.Native.Nat.{_+_, _≤_};
 ghost use lib.ListN.{length};

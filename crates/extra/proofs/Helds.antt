@@ -1,4 +1,4 @@
--- What a pool holds, by its number, and the two candidates that are laid down.
+-- What a pool holds, by its number, and the two candidates that are pushed.
 -- Assumes nothing.
 use mathlib.Core.Path.{_≡_, refl, ap}
 use mathlib.Core.Bool.{Bool, true, false}
@@ -6,15 +6,18 @@ use mathlib.Core.List.{List, [], _∷_, _++_}
 use Prim.Native.Nat.{ℕ, zero, suc, _≤_, _<_}
 use native.Mathlib.Omega.{arith}
 use lib.Dec.{eqb}
-use lib.ListN.{length, getD, set, take}
+use lib.ListN.{length, getD}
 use borrow.Author.Tests.{eq-eqb, ne-eqb}
 use Rattle.ground.specs.Pick.{pick}
 use Rattle.vector.specs.declared.mv.Mv.{Mv}
 use Rattle.vector.specs.Vector as vector
 use Rattle.cells.specs.declared.block.MvPair.{MvPair}
 use Rattle.stack.specs.declared.candidate.Candidate.{Candidate}
-use Rattle.stack.specs.declared.candidate.Found.{Found}
-use Rattle.stack.specs.Stack.{view, live, withCands, nobody, eqPair}
+use Rattle.stack.specs.Stack.{State, withCands, nobody, eqPair}
+use Rattle.stack.specs.Stack as stack
+use Rattle.stack.specs.Numbers.{foundAt, viewAt, countAt, Held}
+use Rattle.stack.proofs.Adds.{live-length}
+use Rattle.stack.proofs.Helds.{stack-long}
 use Rattle.extra.specs.declared.pool.Two.{Two}
 use Rattle.extra.specs.Pool.{heldIn, least, completed}
 
@@ -54,26 +57,27 @@ module _ (t : Two) where
       by (suc zero) l = refl
       by (suc (suc n)) l = absurd (omega arith)
 
--- two candidates at the stack's start
-both-laid : (l : List Candidate) (c d : Candidate) → 2 ≤ length l → take 2 (set (set l 0 c) 1 d) ≡ c ∷ d ∷ []
-both-laid [] c d h = absurd (omega arith)
-both-laid (x ∷ []) c d h = absurd (omega arith)
-both-laid (x ∷ y ∷ l) c d h = refl
+-- the numbers hold as many candidates as they count
+pub how-many : (l : List ℕ) → Held l → length (viewAt l .cands) ≡ countAt l
+unfolding stack.view
+how-many l h = live-length (foundAt l) (stack-long l) (h .room)
 
 -- both pairs, or one of them behind the one candidate
-module _ (s : Found) (full : length (s .stack) ≡ 8) (p q : MvPair) where
-  pub completes-none : s .count ≡ 0 → withCands (view s) (take 2 (set (set (s .stack) 0 (least p)) 1 (least q))) ≡ completed p q (view s)
-  unfolding view live completed
-  completes-none e = rw e (ap (withCands (view s)) (both-laid (s .stack) (least p) (least q) (omega arith)))
-
-  pub completes-one : {mv : MvPair} → s .count ≡ 1 → mv ≡ pick (eqPair (getD (s .stack) 0 nobody .mv) p) q p
-      → withCands (view s) (take 2 (set (s .stack) 1 (least mv))) ≡ completed p q (view s)
-  unfolding view live completed
-  completes-one e f = rw (e, f) (ap (withCands (view s)) (behind (s .stack) (omega arith)))
+module _ (p q : MvPair) (s : State) where
+  pub completes-none : length (s .cands) ≡ 0 → stack.pushed (stack.pushed s p) q ≡ completed p q s
+  unfolding stack.pushed completed
+  completes-none e = ap (withCands s) (by (s .cands) e)
     where
-      behind : (l : List Candidate) → 2 ≤ length l
-          → take 2 (set l 1 (least (pick (eqPair (getD l 0 nobody .mv) p) q p)))
-          ≡ pick (eqb (length (take 1 l)) 0) (least p ∷ least q ∷ []) (take 1 l ++ (least (pick (eqPair (getD (take 1 l) 0 nobody .mv) p) q p) ∷ []))
-      behind [] h = absurd (omega arith)
-      behind (x ∷ []) h = absurd (omega arith)
-      behind (x ∷ y ∷ l) h = refl
+      by : (l : List Candidate) → length l ≡ 0
+          → (l ++ (least p ∷ [])) ++ (least q ∷ [])
+          ≡ pick (eqb (length l) 0) (least p ∷ least q ∷ []) (l ++ (least (pick (eqPair (getD l 0 nobody .mv) p) q p) ∷ []))
+      by [] h = refl
+      by (x ∷ l) h = absurd (omega arith)
+
+  pub completes-first : length (s .cands) ≡ 1 → eqPair (getD (s .cands) 0 nobody .mv) p ≡ true → stack.pushed s q ≡ completed p q s
+  unfolding stack.pushed completed
+  completes-first e f = rw (e, f)
+
+  pub completes-other : length (s .cands) ≡ 1 → eqPair (getD (s .cands) 0 nobody .mv) p ≡ false → stack.pushed s p ≡ completed p q s
+  unfolding stack.pushed completed
+  completes-other e f = rw (e, f)

@@ -18,7 +18,7 @@ use Rattle.neighbours.specs.declared.read.Line.{Line}
 use Rattle.neighbours.specs.declared.read.Read.{Read}
 use Rattle.neighbours.specs.declared.read.Read.the-variants.{Of, Refused}
 use Rattle.neighbours.specs.Neighbour.{alongOf, readAt, lineAt}
-use Rattle.neighbours.proofs.Known.{Known, is-known, is-some, told-line}
+use Rattle.neighbours.proofs.Known.{Known, is-known, is-some, some-side, told-line}
 use Rattle.stack.specs.Stack.{State}
 use Rattle.stack.specs.Answered.{Outcome, refused, found}
 use Rattle.extra.specs.Lists.{extendedBy}
@@ -39,9 +39,7 @@ module _ (tile recs : List ℕ) (total : ℕ) (l : Line) (x : ℕ) {a : Read} (e
   known o = is-known (told-line (tileAt tile .rows) recs total l x) e o
 
   pub strides : (down : Bool) {k : Neighbour} {n : ℕ} → a ≡ Of k → n ≡ alongOf down k → (1 ≤ n) × (n ≤ 32)
-  unfolding alongOf
-  strides true o i = let h = known o .sides in (omega arith, omega arith)
-  strides false o i = let h = known o .sides in (omega arith, omega arith)
+  strides down {k} o i = let h = some-side down k (known o) in (omega (arith, h .0, i), omega (arith, h .1, i))
 
 module _ (nb : ℕ → Read) (down : Bool) (limit : ℕ) (biases : List ℕ) where
   -- what is left of a single search's walk

@@ -3,7 +3,6 @@ use cells::block::Block;
 use cells::block::MvPair;
 use cells::cell::Ref;
 use stack::add::add_new;
-use stack::candidate::Found;
 use vector::mv::Mv;
 ghost use mathlib.Core.Path.{_≡_};
 ghost use mathlib.Core.Bool.{true};
@@ -11,7 +10,7 @@ ghost use Prim.Native.Nat.{_+_, _≤_, _<_};
 ghost use lib.ListN.{length};
 ghost use Rattle.vector.specs.Vector.{Within};
 ghost use Rattle.cells.specs.Block.{wellBlock};
-ghost use Rattle.stack.specs.Stack.{view};
+ghost use Rattle.stack.specs.Numbers.{viewAt, countAt, Held};
 ghost use Rattle.extra.specs.Lists.{isRef, biasOf, turned, listOf, extendedBy};
 
 // One of a neighbour's two lists.
@@ -53,30 +52,30 @@ pub(crate) fn turn(biases: &[u8], r: Ref, l: Listed) -> Mv
     v.negated()
 }
 
-fn extend_by(biases: &[u8], r: Ref, l: Listed, s: Found) -> Found
-    requires { ⌜ (length (now biases) ≡ 7) × (isRef r ≡ true) × (isRef (l .reference) ≡ true) × Within 16383 (l .mv) × (s .count < 8) ⌝ }
-    ensures { λ t. ⌜ (t .count ≤ s .count + 1) × (view t ≡ listOf (now (biases .entry)) r l (view s)) ⌝ }
+fn extend_by(biases: &[u8], r: Ref, l: Listed, s: &mut [u64])
+    requires { ⌜ (length (now biases) ≡ 7) × (isRef r ≡ true) × (isRef (l .reference) ≡ true) × Within 16383 (l .mv) × Held (now s) × (countAt (now s) < 8) ⌝ }
+    ensures { λ _. ⌜ Held (now (s .exit)) × (countAt (now (s .exit)) ≤ countAt (now (s .entry)) + 1) × (viewAt (now (s .exit)) ≡ listOf (now (biases .entry)) r l (viewAt (now (s .entry)))) ⌝ }
 {
     let first = turn(biases, r, l);
     let second = Mv::ZERO;
-    add_new(s, MvPair { first, second })
+    add_new(s, MvPair { first, second });
 }
 
 // Both lists of a neighbour; a first one without a reference hides the second.
-pub(crate) fn extend(biases: &[u8], r: Ref, k: Block, s: Found) -> Found
-    requires { ⌜ (length (now biases) ≡ 7) × (isRef r ≡ true) × (wellBlock k ≡ true) × (s .count < 2) ⌝ }
-    ensures { λ t. ⌜ (t .count ≤ 3) × (view t ≡ extendedBy (now (biases .entry)) r k (view s)) ⌝ }
+pub(crate) fn extend(biases: &[u8], r: Ref, k: Block, s: &mut [u64])
+    requires { ⌜ (length (now biases) ≡ 7) × (isRef r ≡ true) × (wellBlock k ≡ true) × Held (now s) × (countAt (now s) < 2) ⌝ }
+    ensures { λ _. ⌜ Held (now (s .exit)) × (countAt (now (s .exit)) ≤ 3) × (viewAt (now (s .exit)) ≡ extendedBy (now (biases .entry)) r k (viewAt (now (s .entry)))) ⌝ }
 {
     let mv = k.mv;
     let refs = k.refs;
     if !is_ref(refs.first) {
-        return s;
+        return;
     }
     let one = as_list(mv.first, refs.first);
-    let t = extend_by(biases, r, one, s);
+    extend_by(biases, r, one, s);
     if !is_ref(refs.second) {
-        return t;
+        return;
     }
     let two = as_list(mv.second, refs.second);
-    extend_by(biases, r, two, t)
+    extend_by(biases, r, two, s);
 }

@@ -8,19 +8,18 @@ use cells::block::Block;
 use cells::block::MvPair;
 use cells::block::RefPair;
 use cells::cell::Ref;
-use stack::candidate::Candidate;
-use stack::candidate::Found;
-use stack::candidate::same;
+use stack::add::is_first;
+use stack::add::push;
+use stack::numbers::count_in;
 use vector::mv::Mv;
 ghost use mathlib.Core.Path.{_≡_};
 ghost use mathlib.Core.Bool.{true};
 ghost use mathlib.Core.List.{[]};
 ghost use Prim.Native.Nat.{_<_};
 ghost use lib.ListN.{length};
-ghost use Rattle.ground.specs.Pick.{pick};
 ghost use Rattle.vector.specs.Vector.{Within};
 ghost use Rattle.cells.specs.Block.{wellBlock};
-ghost use Rattle.stack.specs.Stack.{view, eqPair};
+ghost use Rattle.stack.specs.Numbers.{viewAt, countAt, Held};
 ghost use Rattle.extra.specs.Lists.{isRef};
 ghost use Rattle.extra.specs.Pool.{heldIn, pushed, nothing, poolOf, poolsOf, put, ownOfSecond, gathered, gatheredBy, chosen, pairAt, completed};
 
@@ -187,26 +186,19 @@ pub fn second_pair(p: Pools, g: MvPair) -> MvPair
     MvPair { first, second }
 }
 
-// Of two pairs the one that a candidate isn't equal to.
-fn other_than(c: Candidate, p: MvPair, q: MvPair) -> MvPair
-    ensures { λ r. ⌜ r ≡ pick (eqPair (c .mv) p) q p ⌝ }
-{
-    if same(c.mv, p) { q } else { p }
-}
-
 // Two candidates in all, whatever was found: both pairs, or one of them behind the one candidate.
-pub fn complete(s: Found, p: MvPair, q: MvPair) -> Found
-    requires { ⌜ s .count < 2 ⌝ }
-    ensures { λ r. ⌜ (r .count ≡ 2) × (view r ≡ completed p q (view s)) ⌝ }
+pub fn complete(s: &mut [u64], p: MvPair, q: MvPair)
+    requires { ⌜ Held (now s) × (countAt (now s) < 2) ⌝ }
+    ensures { λ _. ⌜ Held (now (s .exit)) × (countAt (now (s .exit)) ≡ 2) × (viewAt (now (s .exit)) ≡ completed p q (viewAt (now (s .entry)))) ⌝ }
 {
-    let mut t = s;
-    if s.count == 0 {
-        t.stack[0] = Candidate { mv: p, weight: 2 };
-        t.stack[1] = Candidate { mv: q, weight: 2 };
-    } else {
-        let mv = other_than(s.stack[0], p, q);
-        t.stack[1] = Candidate { mv, weight: 2 };
+    if count_in(s) == 0 {
+        push(s, p);
+        push(s, q);
+        return;
     }
-    t.count = 2;
-    t
+    if is_first(s, p) {
+        push(s, q);
+        return;
+    }
+    push(s, p);
 }

@@ -7,15 +7,14 @@ use cells::cell::Ref;
 use neighbours::read::Line;
 use neighbours::read::Read;
 use neighbours::read::neighbour_at;
-use stack::candidate::Answered;
-use stack::candidate::Found;
+use stack::numbers::count_in;
 ghost use mathlib.Core.Path.{_≡_};
 ghost use mathlib.Core.Bool.{true};
 ghost use Prim.Native.Nat.{_≤_};
 ghost use lib.ListN.{length};
 ghost use Rattle.layout.specs.TileBytes.{tileAt};
 ghost use Rattle.neighbours.specs.Neighbour.{readAt, lineAt};
-ghost use Rattle.stack.specs.Stack.{view};
+ghost use Rattle.stack.specs.Numbers.{foundAt, viewAt, countAt, Held};
 ghost use Rattle.stack.specs.Answered.{outcome};
 ghost use Rattle.extra.specs.Lists.{isRef};
 ghost use Rattle.extra.specs.Pool.{poolsOf};
@@ -36,38 +35,28 @@ pub fn single_along(
     limit: usize,
     biases: &[u8],
     r: Ref,
-    s: Found,
-) -> Answered
-    requires { ⌜ Lent (length (now tile)) (length (now recs)) total l limit × (length (now biases) ≡ 7) × (isRef r ≡ true) × (s .count ≤ 3) ⌝ }
-    ensures { λ a. ⌜ (a .found .count ≤ 3) ⌝ }
-    ensures { λ a. ⌜ outcome a ≡ singleOn (lineAt (readAt (tileAt (now (tile .entry)) .rows) (now (recs .entry)) total) l) (l .down) limit (now (biases .entry)) r limit 0 (view s) ⌝ }
+    s: &mut [u64],
+) -> u8
+    requires { ⌜ Lent (length (now tile)) (length (now recs)) total l limit × (length (now biases) ≡ 7) × (isRef r ≡ true) × Held (now s) × (countAt (now s) ≤ 3) ⌝ }
+    ensures { λ a. ⌜ Held (now (s .exit)) × (countAt (now (s .exit)) ≤ 3) ⌝ }
+    ensures { λ a. ⌜ outcome a (foundAt (now (s .exit))) ≡ singleOn (lineAt (readAt (tileAt (now (tile .entry)) .rows) (now (recs .entry)) total) l) (l .down) limit (now (biases .entry)) r limit 0 (viewAt (now (s .entry))) ⌝ }
 {
-    let mut t = s;
     let mut x: usize = 0;
     while x < limit {
-        if 2 <= t.count {
-            return Answered {
-                found: t,
-                answer: 0,
-            };
+        if 2 <= count_in(s) {
+            return 0;
         }
         match neighbour_at(tile, recs, total, l, x) {
             Read::Refused(n) => {
-                return Answered {
-                    found: t,
-                    answer: n,
-                };
+                return n;
             }
             Read::Of(k) => {
-                t = extend(biases, r, k.block, t);
+                extend(biases, r, k.block, s);
                 x += k.along(l.down);
             }
         }
     }
-    Answered {
-        found: t,
-        answer: 0,
-    }
+    0
 }
 
 // A compound one gathers from all of them.

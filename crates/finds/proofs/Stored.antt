@@ -3,7 +3,7 @@
 use mathlib.Core.Path.{_≡_, sym, ap, _∙_}
 use mathlib.Core.Bool.{Bool, true, false}
 use mathlib.Core.List.{List, [], _∷_}
-use Prim.Native.Nat.{ℕ, _+_, _*_, _≤_, _<_}
+use Prim.Native.Nat.{ℕ, _+_, _*_, _/_, _%_, _^_, _≤_, _<_}
 use native.Mathlib.Omega.{arith}
 use lib.ListN.{length, getD}
 use lib.Seq.{getD-take}
@@ -16,10 +16,24 @@ use Rattle.ground.proofs.Spans.{more, stop, inside}
 use Rattle.vector.specs.declared.mv.Mv.{Mv}
 use Rattle.vector.specs.Vector.{mvBytes}
 use Rattle.stack.specs.declared.candidate.Candidate.{Candidate}
-use Rattle.stack.specs.declared.candidate.Found.{Found}
 use Rattle.stack.specs.Stack.{live, nobody}
+use Rattle.stack.specs.Numbers.{candAt, foundAt, Held}
 use Rattle.stack.proofs.Adds.{live-length}
+use Rattle.stack.proofs.Helds.{stack-long, cand-is}
 use Rattle.finds.specs.Store.{secondPatch, candidatePatches, candidatesScript, fillPatch, fillsScript}
+
+-- what lies above a number's low byte, and above its four
+low : (a b k : ℕ) → a ≡ b + 256 * k → b % 256 ≡ a % 256
+low a b k e = omega arith
+
+four-same : (n : ℕ) → fourBytes (n % 2 ^ 32) ≡ fourBytes n
+four-same n =
+    let q = n / 2 ^ 32 in
+    let a : n % 2 ^ 32 % 256 ≡ n % 256 = omega arith in
+    let b = low (n / 256) (n % 2 ^ 32 / 256) (65536 * q) (omega arith) in
+    let c = low (n / 65536) (n % 2 ^ 32 / 65536) (256 * q) (omega arith) in
+    let d = low (n / 16777216) (n % 2 ^ 32 / 16777216) q (omega arith) in
+    rw (a, b, c, d)
 
 second-inside : (compound : Bool) (i : ℕ) (v : Mv) → i < 8 → Inside 0 96 (secondPatch compound i v)
 second-inside true i v h = ((omega arith, omega arith), tt)
@@ -46,18 +60,24 @@ module _ (compound : Bool) where
   abbrev pub candidateOf : List Candidate → ℕ → List Patch
   candidateOf l i = candidatePatches compound i (getD l i nobody)
 
-  -- a turn of the loop, and its end
-  pub one-more : (s : Found) (i : ℕ) → i < s .count → (l : List ℕ) {t u : List ℕ} → t ≡ run (span (candidateOf (live s)) 0 i) l
-      → u ≡ run (candidatePatches compound i (getD (s .stack) i nobody)) t → u ≡ run (span (candidateOf (live s)) 0 (i + 1)) l
-  unfolding live
-  one-more s i h l {t} e f =
-      more (candidateOf (live s)) 0 i (omega arith) l e
-      (f ∙ ap (λ (c : Candidate). run (candidatePatches compound i c) t) (sym (getD-take (s .count) (s .stack) i nobody h)))
+  -- a candidate that is read out of the numbers
+  as-read : (i : ℕ) (c : Candidate) → candidatePatches compound i (record { mv = c .mv; weight = c .weight % 2 ^ 32 }) ≡ candidatePatches compound i c
+  unfolding candidatePatches
+  as-read i c = rw (four-same (c .weight))
 
-  pub all-laid : (s : Found) → length (s .stack) ≡ 8 → s .count ≤ 8 → (i : ℕ) → i ≡ s .count → (l : List ℕ) {t : List ℕ}
-      → t ≡ run (span (candidateOf (live s)) 0 i) l → t ≡ run (candidatesScript compound (live s)) l
-  unfolding candidatesScript
-  all-laid s full few i e l = stop (candidateOf (live s)) 0 i (length (live s)) (omega (arith, live-length s full few)) l
+  -- a turn of the loop, and its end
+  module _ (s : List ℕ) (h : Held s) (i : ℕ) (l : List ℕ) {t : List ℕ} (e : t ≡ run (span (candidateOf (live (foundAt s))) 0 i) l) where
+    pub one-more : i < foundAt s .count → {c : Candidate} {u : List ℕ} → c ≡ record { mv = candAt s i .mv; weight = candAt s i .weight % 2 ^ 32 }
+        → u ≡ run (candidatePatches compound i c) t → u ≡ run (span (candidateOf (live (foundAt s))) 0 (i + 1)) l
+    unfolding live
+    one-more b g f =
+        let r : getD (live (foundAt s)) i nobody ≡ candAt s i = getD-take (foundAt s .count) (foundAt s .stack) i nobody b ∙ cand-is s i (omega (arith, h .room)) in
+        more (candidateOf (live (foundAt s))) 0 i (omega arith) l e
+        (f ∙ ap (λ (p : List Patch). run p t) (ap (candidatePatches compound i) g ∙ as-read i (candAt s i) ∙ ap (candidatePatches compound i) (sym r)))
+
+    pub all-laid : i ≡ foundAt s .count → t ≡ run (candidatesScript compound (live (foundAt s))) l
+    unfolding candidatesScript
+    all-laid n = stop (candidateOf (live (foundAt s))) 0 i (length (live (foundAt s))) (omega (arith, live-length (foundAt s) (stack-long s) (h .room))) l e
 
   pub candidates-inside : (l : List Candidate) → length l ≤ 8 → Inside 0 96 (candidatesScript compound l)
   unfolding candidatesScript candidatePatches

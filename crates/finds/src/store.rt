@@ -2,13 +2,15 @@
 // stays as it is lent.
 use ground::write::put_u32;
 use stack::candidate::Candidate;
-use stack::candidate::Found;
+use stack::numbers::candidate_in;
+use stack::numbers::count_in;
 use vector::mv::Mv;
 ghost use mathlib.Core.Path.{_≡_};
 ghost use Prim.Native.Nat.{_+_, _*_, _≤_};
 ghost use lib.ListN.{length};
 ghost use Rattle.ground.specs.Script.{run};
 ghost use Rattle.stack.specs.Stack.{live};
+ghost use Rattle.stack.specs.Numbers.{foundAt, Held};
 ghost use Rattle.finds.specs.Store.{secondPatch, candidatePatches, candidatesScript, fillsScript};
 
 // The second vector counts in a compound search alone.
@@ -31,14 +33,14 @@ fn put_candidate(stack: &mut [u8], i: usize, c: Candidate, compound: bool)
     put_u32(stack, 12 * i + 8, c.weight);
 }
 
-pub(crate) fn put_candidates(stack: &mut [u8], s: Found, compound: bool)
-    requires { ⌜ (96 ≤ length (now stack)) × (s .count ≤ 8) ⌝ }
-    ensures { λ _. ⌜ now (stack .exit) ≡ run (candidatesScript compound (live s)) (now (stack .entry)) ⌝ }
+pub(crate) fn put_candidates(stack: &mut [u8], s: &[u64], compound: bool)
+    requires { ⌜ (96 ≤ length (now stack)) × Held (now s) ⌝ }
+    ensures { λ _. ⌜ now (stack .exit) ≡ run (candidatesScript compound (live (foundAt (now (s .entry))))) (now (stack .entry)) ⌝ }
 {
-    let n = s.count;
+    let n = count_in(s);
     let mut i: usize = 0;
     while i < n {
-        put_candidate(stack, i, s.stack[i], compound);
+        put_candidate(stack, i, candidate_in(s, i), compound);
         i += 1;
     }
 }

@@ -5,35 +5,36 @@ use crate::store::put_fills;
 use extra::lists::is_ref;
 use search::find::Findings;
 use search::find::find;
+use stack::numbers::NUMBERS;
+use stack::numbers::count_in;
 ghost use mathlib.Core.Path.{_≡_};
 ghost use Prim.Native.Nat.{_≤_};
 ghost use lib.ListN.{length};
 ghost use Rattle.ground.specs.Script.{run};
 ghost use Rattle.layout.specs.FrameBytes.{frameAt};
 ghost use Rattle.layout.specs.TileBytes.{tileAt};
+ghost use Rattle.stack.specs.Numbers.{foundAt, Held};
 ghost use Rattle.search.specs.Find.{finding, findOf};
 ghost use Rattle.finds.specs.Question.{askAt};
 ghost use Rattle.finds.specs.Whole.{isCompound, answerIn, stackScript, foundScript};
 
 // Once, at the end.
-fn put_stack(stack: &mut [u8], r: Findings, compound: bool)
-    requires { ⌜ (96 ≤ length (now stack)) × (r .found .count ≤ 8) × (r .answer ≡ 0) ⌝ }
-    ensures { λ _. ⌜ now (stack .exit) ≡ run (stackScript compound (finding r)) (now (stack .entry)) ⌝ }
+fn put_stack(stack: &mut [u8], r: Findings, s: &[u64], compound: bool)
+    requires { ⌜ (96 ≤ length (now stack)) × Held (now s) × (r .answer ≡ 0) ⌝ }
+    ensures { λ _. ⌜ now (stack .exit) ≡ run (stackScript compound (finding r (foundAt (now (s .entry))))) (now (stack .entry)) ⌝ }
 {
-    let found = r.found;
-    put_candidates(stack, found, compound);
+    put_candidates(stack, s, compound);
     if !compound {
-        put_fills(stack, found.count, r.fill);
+        put_fills(stack, count_in(s), r.fill);
     }
 }
 
 // Count and context.
-fn put_found(out: &mut [u8], r: Findings)
-    requires { ⌜ (2 ≤ length (now out)) × (r .found .count ≤ 8) × (r .answer ≡ 0) ⌝ }
-    ensures { λ _. ⌜ now (out .exit) ≡ run (foundScript (finding r)) (now (out .entry)) ⌝ }
+fn put_found(out: &mut [u8], r: Findings, s: &[u64])
+    requires { ⌜ (2 ≤ length (now out)) × Held (now s) × (r .answer ≡ 0) ⌝ }
+    ensures { λ _. ⌜ now (out .exit) ≡ run (foundScript (finding r (foundAt (now (s .entry))))) (now (out .entry)) ⌝ }
 {
-    let found = r.found;
-    out[0] = found.count as u8;
+    out[0] = count_in(s) as u8;
     out[1] = r.context;
 }
 
@@ -55,11 +56,12 @@ pub fn find_into(
 {
     let a = ask_at(ask);
     let refs = a.refs;
-    let r = find(frame, tile, recs, proj, a);
+    let mut s = [0u64; NUMBERS];
+    let r = find(frame, tile, recs, proj, a, &mut s);
     if r.answer != 0 {
         return r.answer;
     }
-    put_stack(stack, r, is_ref(refs.second));
-    put_found(out, r);
+    put_stack(stack, r, &s, is_ref(refs.second));
+    put_found(out, r, &s);
     0
 }

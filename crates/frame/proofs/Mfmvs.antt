@@ -9,9 +9,9 @@ use lib.IntN.{ℤ, natAbs}
 use borrow.Author.Tests.{ltb-false}
 use Rattle.ground.specs.Sign.{below}
 use Rattle.ground.proofs.Picks.{pick-true, pick-false, or-off}
-use Rattle.frame.specs.declared.description.Description.{Description}
-use Rattle.frame.specs.Description.{hintAt, heldAt, ofHints}
-use Rattle.frame.specs.Distances.{fromCurrent}
+use Rattle.hints.specs.declared.description.Description.{Description}
+use Rattle.hints.specs.Description.{hintAt, heldAt, ofHints}
+use Rattle.hints.specs.Distances.{fromCurrent}
 use Rattle.frame.specs.Mfmv.{far, offset, refToRef, mfmvOf}
 
 -- a distance that is not far is at most 31

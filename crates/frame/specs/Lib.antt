@@ -1,8 +1,4 @@
 -- What frame setup is, from document 01 and the standard's 7.9.1 and 7.9.2.
-pub mod Sizes
-pub mod Description
-pub mod Distances
-pub mod Selection
 pub mod Mfmv
 pub mod Record
 pub mod Worked

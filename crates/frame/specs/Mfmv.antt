@@ -8,14 +8,14 @@ use lib.ListN.{length, getD, replicate}
 use Rattle.ground.specs.Pick.{pick}
 use Rattle.ground.specs.Sign.{below}
 use Rattle.vector.specs.Hint.{distance}
-use Rattle.frame.specs.declared.description.Description.{Description}
-use Rattle.frame.specs.declared.select.Selection.{Selection}
+use Rattle.hints.specs.declared.description.Description.{Description}
+use Rattle.hints.specs.declared.select.Selection.{Selection}
 use Rattle.frame.specs.declared.mfmv.Mfmv.{Mfmv}
 use Rattle.frame.specs.declared.mfmv.Ref2Cur.{Ref2Cur}
 use Rattle.frame.specs.declared.mfmv.Ref2Cur.the-variants.{Skipped, At}
-use Rattle.frame.specs.Description.{under, hintAt, heldAt}
-use Rattle.frame.specs.Distances.{seven, fromCurrent}
-use Rattle.frame.specs.Selection.{last2Frame, bwdrefFrame, altrefFrame}
+use Rattle.hints.specs.Description.{under, hintAt, heldAt}
+use Rattle.hints.specs.Distances.{seven, fromCurrent}
+use Rattle.hints.specs.Selection.{last2Frame, bwdrefFrame, altrefFrame, selectable}
 
 -- MAX_FRAME_DISTANCE: cells of a reference further off are never projected
 unfoldable pub far : ℤ → Bool
@@ -60,9 +60,6 @@ abbrev pub slots : Description → List ℕ → List Mfmv
 slots d xs = slotOf d xs 0 ∷ slotOf d xs 1 ∷ slotOf d xs 2 ∷ []
 
 -- values that setup can give, each field for itself: one of the five references, a distance to 31 either way or skipped, distances to 31
-unfoldable pub selectable : ℕ → Bool
-selectable r = pick (leb bwdrefFrame r) (leb r altrefFrame) (leb r last2Frame)
-
 unfoldable pub wellCur : Ref2Cur → Bool
 wellCur Skipped = true
 wellCur (At z) = leb (natAbs z) 31

@@ -8,15 +8,15 @@ use lib.ListN.{length, getD, replicate}
 use Rattle.ground.specs.Pick.{pick}
 use Rattle.ground.specs.Answer.{beside}
 use Rattle.ground.specs.Below.{allBelow}
-use Rattle.frame.specs.declared.description.Description.{Description}
-use Rattle.frame.specs.declared.distances.RefHint.{RefHint}
+use Rattle.hints.specs.declared.description.Description.{Description}
+use Rattle.hints.specs.declared.distances.RefHint.{RefHint}
 use Rattle.frame.specs.declared.record.Frame.{Frame}
 use Rattle.frame.specs.declared.record.Listed.{Listed}
 use Rattle.frame.specs.declared.setup.Setup.{Setup}
-use Rattle.frame.specs.Sizes.{sbszOf, sizesOf, wellSizes, savedCells, projectedCells, records}
-use Rattle.frame.specs.Description.{setupAnswer}
-use Rattle.frame.specs.Distances.{flagOf, refHints, wellHint}
-use Rattle.frame.specs.Selection.{selected}
+use Rattle.extent.specs.Sizes.{sbszOf, sizesOf, wellSizes, savedCells, projectedCells, records}
+use Rattle.hints.specs.Description.{setupAnswer}
+use Rattle.hints.specs.Distances.{flagOf, refHints, wellHint}
+use Rattle.hints.specs.Selection.{selected}
 use Rattle.frame.specs.Mfmv.{idle, noMfmv, slots, wellMfmv}
 
 unfoldable pub frameOf : Description → List ℕ → Frame

@@ -8,7 +8,7 @@ use Rattle.vector.specs.Precision.{lowered}
 use Rattle.vector.specs.Hint.{distance}
 use Rattle.vector.specs.Worked as vectors
 use Rattle.vector.specs.Worked.{Line}
-use Rattle.frame.specs.Sizes.{eighths, strideOf, partsOf, passesOf, sizesOf, records}
+use Rattle.extent.specs.Sizes.{eighths, strideOf, partsOf, passesOf, sizesOf, records}
 
 -- P1 to P8, then P9: width 1,920, one thread each way
 abbrev pub table : List Line

@@ -1,8 +1,4 @@
 // A frame's setup: from its description to the finished record that every later call is handed.
-pub mod description;
-pub mod distances;
 pub mod mfmv;
 pub mod record;
-pub mod select;
 pub mod setup;
-pub mod sizes;

@@ -1,12 +1,12 @@
 // A reference that is projected: where it stands to the current frame, and its own references to it.
-use crate::description::held_in;
-use crate::description::wide;
-use crate::distances::near;
-use crate::select::ALTREF;
-use crate::select::BWDREF;
-use crate::select::LAST2;
 use ground::sign::magnitude;
 use ground::sign::negative;
+use hints::description::held_in;
+use hints::description::wide;
+use hints::distances::near;
+use hints::select::ALTREF;
+use hints::select::BWDREF;
+use hints::select::LAST2;
 use vector::hint::get_poc_diff;
 ghost use mathlib.Core.Path.{_≡_};
 ghost use mathlib.Core.Bool.{true};
@@ -14,9 +14,10 @@ ghost use Prim.Native.Nat.{_+_, _*_, _≤_, _<_, _^_};
 ghost use lib.ListN.{length, getD};
 ghost use Rattle.ground.specs.Pick.{pick};
 ghost use Rattle.vector.specs.Hint.{distance};
-ghost use Rattle.frame.specs.Description.{under, hinted, ofHints};
-ghost use Rattle.frame.specs.Distances.{seven};
-ghost use Rattle.frame.specs.Mfmv.{far, towards, offset, mfmvOf, idle, selectable, wellCur, wellMfmv};
+ghost use Rattle.hints.specs.Description.{under, hinted, ofHints};
+ghost use Rattle.hints.specs.Distances.{seven};
+ghost use Rattle.frame.specs.Mfmv.{far, towards, offset, mfmvOf, idle, wellCur, wellMfmv};
+ghost use Rattle.hints.specs.Selection.{selectable};
 
 // A reference more than 31 away is skipped: it counts as selected, and none of its cells lands.
 pub enum Ref2Cur {

@@ -1,11 +1,11 @@
 // The finished record of a frame, which every later call is handed and checks.
-use crate::distances::RefHint;
 use crate::mfmv::Mfmv;
-use crate::sizes::Sizes;
+use extent::sizes::Sizes;
+use hints::distances::RefHint;
 ghost use mathlib.Core.Path.{_≡_};
 ghost use Rattle.ground.specs.Below.{allBelow};
 ghost use lib.ListN.{getD};
-ghost use Rattle.frame.specs.Distances.{wellHint};
+ghost use Rattle.hints.specs.Distances.{wellHint};
 ghost use Rattle.frame.specs.Mfmv.{noMfmv, wellMfmv};
 ghost use Rattle.frame.specs.Record.{noHint, wellFrame, checkAnswer, listedOf};
 

@@ -1,25 +1,25 @@
 // Frame setup, the Rust's `rav1d_refmvs_init_frame`.
-use crate::description::Description;
-use crate::description::admit;
-use crate::distances::RefHint;
-use crate::distances::flag;
-use crate::distances::ref_hints;
 use crate::mfmv::Mfmv;
 use crate::mfmv::idle_mfmv;
 use crate::mfmv::slot;
 use crate::record::Frame;
-use crate::select::Selection;
-use crate::select::select;
-use crate::sizes::Sizes;
-use crate::sizes::sizes_of;
 use cells::pos::Pos4;
 use cells::pos::Pos8;
+use extent::sizes::Sizes;
+use extent::sizes::sizes_of;
+use hints::description::Description;
+use hints::description::admit;
+use hints::distances::RefHint;
+use hints::distances::flag;
+use hints::distances::ref_hints;
+use hints::select::Selection;
+use hints::select::select;
 ghost use mathlib.Core.Path.{_≡_};
 ghost use mathlib.Core.Bool.{true};
 ghost use Prim.Native.Nat.{_<_};
 ghost use lib.ListN.{getD};
-ghost use Rattle.frame.specs.Sizes.{limits, sbszOf, sizesOf};
-ghost use Rattle.frame.specs.Description.{hinted, setupAnswer};
+ghost use Rattle.extent.specs.Sizes.{limits, sbszOf, sizesOf};
+ghost use Rattle.hints.specs.Description.{hinted, setupAnswer};
 ghost use Rattle.frame.specs.Mfmv.{slotIn};
 ghost use Rattle.frame.specs.Record.{frameOf, noFrame, setupOf};
 

@@ -1,10 +1,10 @@
 // A finished record, field by field in the order of the list.
-use frame::distances::RefHint;
+use extent::sizes::Sizes;
 use frame::mfmv::Mfmv;
 use frame::mfmv::Ref2Cur;
 use frame::record::Frame;
 use frame::record::listed_sizes;
-use frame::sizes::Sizes;
+use hints::distances::RefHint;
 use lines::print;
 
 pub(crate) fn finished(f: Frame) {

@@ -11,7 +11,7 @@ use borrow.Author.Tests.{eqb-true, ne-eqb}
 use Rattle.ground.specs.Pick.{pick}
 use Rattle.ground.specs.Below.{allBelow}
 use Rattle.ground.proofs.Belows.{at}
-use Rattle.frame.specs.Distances.{flagOf}
+use Rattle.hints.specs.Distances.{flagOf}
 use Rattle.front.specs.Context.{compoundMap, compoundContext}
 
 -- a flag, as a call has answered it

@@ -8,10 +8,8 @@ use lib.Dec.{eqb, leb, ltb}
 use lib.IntN.{pos, negsuc}
 use borrow.Author.Tests.{leb-true, ltb-true, ltb-false, eqb-true, ne-eqb, not-false}
 use Rattle.ground.specs.Pick.{pick}
-use Rattle.ground.specs.Below.{allBelow}
 use Rattle.ground.specs.Sign.{fromTo, eqZ}
 use Rattle.ground.proofs.Answers.{refused-not}
-use Rattle.ground.proofs.Belows.{at}
 use Rattle.ground.proofs.Bits.{eqZ-is}
 use Rattle.ground.proofs.Picks.{both}
 use Rattle.vector.specs.declared.mv.Mv.{Mv}
@@ -19,21 +17,19 @@ use Rattle.vector.specs.Vector.{zero, Within, within}
 use Rattle.vector.proofs.Vectors.{within-is}
 use Rattle.cells.specs.declared.cell.Ref.{Ref}
 use Rattle.cells.specs.declared.block.RefPair.{RefPair}
-use Rattle.cells.specs.declared.size.Sized.{Sized}
-use Rattle.cells.specs.declared.size.Sized.the-variants.{Of, Refused}
-use Rattle.cells.specs.Size.{sizeOf}
 use Rattle.cells.proofs.Sizes.{Narrow, narrow}
-use Rattle.frame.specs.declared.sizes.Sizes.{Sizes}
+use Rattle.extent.specs.declared.sizes.Sizes.{Sizes}
 use Rattle.frame.specs.declared.record.Frame.{Frame}
 use Rattle.frame.specs.Record.{wellFrame}
-use Rattle.frame.specs.Sizes.{records, projectedCells}
+use Rattle.extent.specs.Sizes.{records, projectedCells}
 use Rattle.frame.proofs.Records.{frame-sizes}
-use Rattle.frame.proofs.Sizing.{Fits, fits, eighths-most}
+use Rattle.extent.proofs.Sizing.{Fits, fits, eighths-most}
 use Rattle.rows.specs.declared.setup.TileRange.{TileRange}
 use Rattle.rows.specs.declared.setup.Tile.{Tile}
-use Rattle.rows.specs.Splat.{holds}
+use Rattle.splats.specs.Splat.{holds}
 use Rattle.rows.proofs.Parts.{blocks-fit}
 use Rattle.site.specs.Site.{Placed}
+use Rattle.neighbours.proofs.Known.{size-is}
 use Rattle.extra.specs.Lists.{isRef}
 use Rattle.front.specs.declared.ask.Ask.{Ask}
 use Rattle.front.specs.Ask.{flagged, paired, bounded, boundedRefs, askable, findFront, fillingOf, globalOf, dimsOf, siteOf}
@@ -114,22 +110,9 @@ asked s col row temporal a e =
       near = h4 .1;
     }
 
--- every code up to 21 has a size: a test that the checker computes over the codes, once
-sized : Sized → Bool
-sized (Of d) = true
-sized Refused = false
-
-all-sized : allBelow 22 (λ n. sized (sizeOf n)) ≡ true
-unfolding allBelow sized sizeOf
-all-sized = refl
-
 dims-narrow : (code : ℕ) → code ≤ 21 → Narrow (dimsOf code)
-unfolding dimsOf sized
-dims-narrow code h = by (sizeOf code) refl (at (λ n. sized (sizeOf n)) 22 code all-sized (omega arith))
-  where
-    by : (z : Sized) → sizeOf code ≡ z → sized (sizeOf code) ≡ true → Narrow (dimsOf code)
-    by (Of d) e t = rw e (narrow code d e)
-    by Refused e t = absurd (true≢false (sym t ∙ ap sized e))
+unfolding dimsOf
+dims-narrow code h = let e = size-is code h in rw (e .1) (narrow code (e .0) (e .1))
 
 -- the block that a question is about lies in its tile, and the tile in the frame
 module _ (f : Frame) (t : Tile) (a : Ask) (w : wellFrame f ≡ true) (e : askable (f .sizes) (t .col) (t .row) (f .«use_ref_frame_mvs») a ≡ true) where

@@ -14,13 +14,13 @@ use Rattle.cells.specs.declared.size.Dims.{Dims}
 use Rattle.cells.specs.declared.size.Sized.{Sized}
 use Rattle.cells.specs.declared.size.Sized.the-variants.{Of, Refused}
 use Rattle.cells.specs.Size.{sizeOf}
-use Rattle.frame.specs.declared.sizes.Sizes.{Sizes}
+use Rattle.extent.specs.declared.sizes.Sizes.{Sizes}
 use Rattle.frame.specs.declared.record.Frame.{Frame}
 use Rattle.frame.specs.Record.{wellFrame}
-use Rattle.frame.specs.Sizes.{records, projectedCells}
+use Rattle.extent.specs.Sizes.{records, projectedCells}
 use Rattle.rows.specs.declared.setup.TileRange.{TileRange}
 use Rattle.rows.specs.declared.setup.Tile.{Tile}
-use Rattle.rows.specs.Splat.{holds}
+use Rattle.splats.specs.Splat.{holds}
 use Rattle.neighbours.specs.declared.want.Want.{Want}
 use Rattle.site.specs.declared.block.Site.{Site}
 use Rattle.extra.specs.Lists.{isRef}

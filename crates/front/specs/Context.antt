@@ -5,7 +5,7 @@ use mathlib.Core.List.{List, [], _∷_}
 use lib.Dec.{eqb}
 use lib.ListN.{getD}
 use Rattle.ground.specs.Pick.{pick}
-use Rattle.frame.specs.Distances.{flagOf}
+use Rattle.hints.specs.Distances.{flagOf}
 use Rattle.stack.specs.Stack.{State}
 
 -- on how many of the two sides a neighbour has matched

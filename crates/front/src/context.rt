@@ -1,16 +1,19 @@
 // The context that a search's modes are read with.
-use frame::distances::flag;
-use stack::candidate::Found;
+use hints::distances::flag;
+use stack::numbers::Flag;
+use stack::numbers::flag_in;
 ghost use mathlib.Core.Path.{_≡_};
 ghost use Prim.Native.Nat.{_≤_, min};
-ghost use Rattle.stack.specs.Stack.{view};
+ghost use lib.ListN.{length};
+ghost use Rattle.stack.specs.Numbers.{viewAt};
 ghost use Rattle.front.specs.Context.{matchesOf, refContext, newContext, compoundContext, contextOf};
 
 // On how many sides neighbours matched.
-pub fn matches(s: Found) -> u8
-    ensures { λ r. ⌜ (r ≡ matchesOf (view s)) × (r ≤ 2) ⌝ }
+pub fn matches(s: &[u64]) -> u8
+    requires { ⌜ length (now s) ≡ 20 ⌝ }
+    ensures { λ r. ⌜ (r ≡ matchesOf (viewAt (now (s .entry)))) × (r ≤ 2) ⌝ }
 {
-    flag(s.above) + flag(s.left)
+    flag(flag_in(s, Flag::Above)) + flag(flag_in(s, Flag::Left))
 }
 
 fn lesser(a: u8, b: u8) -> u8

@@ -15,3 +15,4 @@ pub mod Orders
 pub mod Belows
 pub mod Spans
 pub mod Lasts
+pub mod Tabs

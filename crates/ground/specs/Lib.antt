@@ -10,3 +10,4 @@ pub mod Window
 pub mod Below
 pub mod Span
 pub mod Last
+pub mod Tab

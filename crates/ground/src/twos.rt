@@ -19,16 +19,22 @@ pub fn byte_bits(c: i8) -> u8
     if c < 0 { 255 - (!c) as u8 } else { c as u8 }
 }
 
-// The number that two bytes hold.
-pub fn joined(low: u8, high: u8) -> i16
-    ensures { λ r. ⌜ r ≡ twos16 (low + 256 * high) ⌝ }
+// The number that 16 bits hold.
+pub fn signed_half(n: u16) -> i16
+    ensures { λ r. ⌜ r ≡ twos16 n ⌝ }
 {
-    let n = low as u16 + 256 * (high as u16);
     if n < 32768 {
         n as i16
     } else {
         !((65535 - n) as i16)
     }
+}
+
+// The number that two bytes hold.
+fn joined(low: u8, high: u8) -> i16
+    ensures { λ r. ⌜ r ≡ twos16 (low + 256 * high) ⌝ }
+{
+    signed_half(low as u16 + 256 * (high as u16))
 }
 
 // The 16 bits that hold a number.

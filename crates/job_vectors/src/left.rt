@@ -5,7 +5,7 @@ use crate::given::proj_of;
 use crate::given::saved_of;
 use ground::write::put_bytes;
 use ground::write::put_size;
-use jobs::job::Batch;
+use job::record::Batch;
 use motion_cases::changes;
 use motion_cases::fields::PART;
 ghost use mathlib.Core.Path.{_≡_};

@@ -20,7 +20,7 @@ use crate::tally::Seen;
 use crate::tally::Tally;
 use cases::lent::prepare;
 use ground::read::size_at;
-use jobs::job::Batch;
+use job::record::Batch;
 use motion_cases::fields::PART;
 use rows::setup::lesser;
 ghost use mathlib.Core.Path.{_≡_};

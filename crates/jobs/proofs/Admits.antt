@@ -1,29 +1,30 @@
 -- The admission's ways out, and what it shows of every job's area.
 -- Assumes nothing.
-use mathlib.Core.Path.{_≡_, sym, _∙_}
+use mathlib.Core.Path.{_≡_, sym, ap, _∙_}
 use mathlib.Core.Bool.{true, false}
-use Prim.Native.Nat.{ℕ, _≤_, _<_}
+use Prim.Native.Nat.{ℕ, _<_}
 use native.Mathlib.Omega.{arith}
-use lib.Dec.{leb}
 use lib.ListN.{length}
-use borrow.Author.Tests.{leb-true}
-use Rattle.ground.specs.Below.{allBelow}
 use Rattle.ground.specs.Pick.{pick}
 use Rattle.ground.specs.Span.{firstOf}
 use Rattle.ground.proofs.Answers.{both-accept, or-accepts, or-refuses}
-use Rattle.ground.proofs.Belows as belows
-use Rattle.ground.proofs.Picks.{both}
 use Rattle.ground.proofs.Spans.{all-accept}
 use Rattle.frame.specs.Record.{wellFrame}
-use Rattle.frame.specs.Sizes.{oneTo}
 use Rattle.saving.specs.Area.{wellArea}
 use Rattle.loading.specs.Load.{lengthsOf}
-use Rattle.jobs.specs.declared.job.Job.{Job}
-use Rattle.jobs.specs.declared.job.Batch.{Batch}
-use Rattle.jobs.specs.Job.{jobAt, wellKind, wellBatch, jobReads}
-use Rattle.jobs.specs.Needs.{Able, Areas}
-use Rattle.jobs.specs.Admit.{Handed, lengthsIn, frontOf, jobAnswer, apart, batchAnswer}
-use Rattle.jobs.proofs.Fronts.{Front, front}
+use Rattle.job.specs.declared.record.Job.{Job}
+use Rattle.job.specs.declared.record.Batch.{Batch}
+use Rattle.job.specs.declared.record.Lengths.{Lengths}
+use Rattle.job.specs.Job.{jobAt, wellBatch, jobFront}
+use Rattle.job.specs.Needs.{Able}
+use Rattle.job.proofs.Batches.{formed}
+use Rattle.job.proofs.Fronts.{Front, front}
+use Rattle.jobs.specs.Needs.{Areas}
+use Rattle.jobs.specs.Admit.{Handed, lengthsIn, frontOf, jobReads, jobAnswer, apart, batchAnswer}
+
+-- a job's front, by lengths that are those of what is handed
+pub front-told : (h : Handed) (j : Job) {n : Lengths} {r : ℕ} → n ≡ lengthsIn h → r ≡ jobFront (h .frame) (h .present) n j → r ≡ frontOf h j
+front-told h j p e = e ∙ ap (λ (m : Lengths). jobFront (h .frame) (h .present) m j) p
 
 -- ONE JOB'S TWO WAYS OUT
 module _ (h : Handed) (j : Job) {r : ℕ} (e : r ≡ frontOf h j) where
@@ -42,23 +43,6 @@ module _ (h : Handed) (j : Job) {r : ℕ} (e : r ≡ frontOf h j) where
 -- every job's own refusals
 abbrev pub jobsAnswer : Handed → Batch → ℕ
 jobsAnswer h b = firstOf (λ i. jobAnswer h (jobAt b i)) 0 (b .n)
-
--- a batch whose jobs may be judged one by one
-pub one-to-eight : (n : ℕ) → oneTo 8 n ≡ true → (1 ≤ n) × (n ≤ 8)
-unfolding oneTo
-one-to-eight n e = let p = both (leb 1 n) (leb n 8) e in (leb-true 1 n (p .0), leb-true n 8 (p .1))
-
-pub record Formed (b : Batch) : Type 0 where
-  pub some : 1 ≤ b .n
-  pub few : b .n ≤ 8
-  pub kinds : (i : ℕ) → i < b .n → wellKind (jobAt b i) ≡ true
-
-pub formed : (b : Batch) → wellBatch b ≡ true → Formed b
-unfolding wellBatch
-formed b w =
-    let p = both (oneTo 8 (b .n)) (allBelow (b .n) (λ i. wellKind (jobAt b i))) w in
-    let q = one-to-eight (b .n) (p .0) in
-    record { some = q .0; few = q .1; kinds = λ i g. belows.at (λ k. wellKind (jobAt b k)) (b .n) i (p .1) g }
 
 pub areas : (h : Handed) (b : Batch) → wellBatch b ≡ true → {r : ℕ} → r ≡ jobsAnswer h b → r ≡ 0 → Areas (h .frame) b (b .n)
 unfolding jobAnswer

@@ -1,6 +1,3 @@
--- The laws of the definitions in specs/: what a job's front shows, its rows of work, and the ways out of a step and of an admission, and that refusal 11 is what it should be.
-pub mod Fronts
-pub mod Works
-pub mod Steps
+-- The laws of the definitions in specs/: the ways out of an admission and of a step.
 pub mod Admits
-pub mod Shared
+pub mod Steps

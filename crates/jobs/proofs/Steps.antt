@@ -14,17 +14,18 @@ use Rattle.ground.specs.Script.{Patch, run}
 use Rattle.ground.proofs.Answers.{both-accept, or-accepts, or-refuses, refused-not}
 use Rattle.ground.proofs.Picks.{both, pick-true, pick-false}
 use Rattle.loading.specs.Load.{lengthsOf}
-use Rattle.jobs.specs.declared.job.Job.{Job}
-use Rattle.jobs.specs.declared.job.Batch.{Batch}
-use Rattle.jobs.specs.declared.job.Answer.{Answer}
-use Rattle.jobs.specs.declared.job.Answer.the-variants.{Moved, Refused}
+use Rattle.job.specs.declared.record.Job.{Job}
+use Rattle.job.specs.declared.record.Batch.{Batch}
+use Rattle.job.specs.Job.{isLoad, jobAt, wellKind, countOf}
+use Rattle.job.specs.Needs.{Able, Room}
+use Rattle.job.proofs.Fronts.{front, count-most}
+use Rattle.work.specs.Work.{workRead, workScript, onProj, onSaved}
+use Rattle.jobs.specs.declared.step.Answer.{Answer}
+use Rattle.jobs.specs.declared.step.Answer.the-variants.{Moved, Refused}
 use Rattle.jobs.specs.declared.step.Stepped.{Stepped}
 use Rattle.jobs.specs.declared.step.Turned.{Turned}
-use Rattle.jobs.specs.Job.{isLoad, jobAt, wellKind, countOf, workRead, workScript, onProj, onSaved}
-use Rattle.jobs.specs.Needs.{Able, Room}
 use Rattle.jobs.specs.Admit.{Handed, lengthsIn, frontOf}
 use Rattle.jobs.specs.Step.{doneNumber, answerOf, stepNumber, stepDone, stepProj, stepSaved, counted, names, turnNumber, turnProj, turnSaved, turnBatch}
-use Rattle.jobs.proofs.Fronts.{front, count-most}
 
 -- THE NUMBER'S FOUR WAYS OUT
 module _ (h : Handed) (j : Job) where

@@ -9,11 +9,12 @@ use Rattle.ground.specs.Pick.{pick}
 use Rattle.ground.specs.Span.{firstOf}
 use Rattle.frame.specs.declared.record.Frame.{Frame}
 use Rattle.loading.specs.Load.{lengthsOf}
-use Rattle.jobs.specs.declared.job.Job.{Job}
-use Rattle.jobs.specs.declared.job.Batch.{Batch}
-use Rattle.jobs.specs.declared.job.Lengths.{Lengths}
-use Rattle.jobs.specs.Job.{jobAt, wellBatch, jobFront, jobReads}
-use Rattle.jobs.specs.Share.{meets}
+use Rattle.job.specs.declared.record.Job.{Job}
+use Rattle.job.specs.declared.record.Batch.{Batch}
+use Rattle.job.specs.declared.record.Lengths.{Lengths}
+use Rattle.job.specs.Job.{jobAt, wellBatch, countOf, jobFront}
+use Rattle.job.specs.Share.{meets}
+use Rattle.work.specs.Work.{workRead}
 
 -- What a batch and each of its steps are handed beside the jobs: the frame's record, the present flags, the seven fields, the records, and two buffers to write,
 -- of which only the lengths matter.
@@ -33,6 +34,10 @@ lengthsIn h = record { fields = lengthsOf (h .fields); recs = length (h .recs); 
 
 abbrev pub frontOf : Handed → Job → ℕ
 frontOf h j = jobFront (h .frame) (h .present) (lengthsIn h) j
+
+-- all of a job's reads
+unfoldable pub jobReads : Frame → List (List ℕ) → List ℕ → Job → ℕ
+jobReads f fields recs j = firstOf (workRead f fields recs j) 0 (countOf f j)
 
 -- one job, whole
 unfoldable pub jobAnswer : Handed → Job → ℕ

@@ -1,7 +1,4 @@
--- Jobs and windows (document 01): job records, a batch's admission, a step; and demand 3, steps in any order.
-pub mod Job
-pub mod Bytes
+-- Jobs and windows (document 01): a batch's admission, a step.
 pub mod Needs
-pub mod Share
 pub mod Admit
 pub mod Step

@@ -7,11 +7,12 @@ use lib.ListN.{set}
 use Rattle.ground.specs.Answer.{orElse, accepted}
 use Rattle.ground.specs.Pick.{pick}
 use Rattle.ground.specs.Script.{Patch}
-use Rattle.jobs.specs.declared.job.Job.{Job}
-use Rattle.jobs.specs.declared.job.Batch.{Batch}
-use Rattle.jobs.specs.declared.job.Answer.{Answer}
-use Rattle.jobs.specs.declared.job.Answer.the-variants.{Moved, Done, Refused}
-use Rattle.jobs.specs.Job.{jobAt, wellKind, countOf, workRead, workScript, onProj, onSaved}
+use Rattle.job.specs.declared.record.Job.{Job}
+use Rattle.job.specs.declared.record.Batch.{Batch}
+use Rattle.job.specs.Job.{jobAt, wellKind, countOf}
+use Rattle.work.specs.Work.{workRead, workScript, onProj, onSaved}
+use Rattle.jobs.specs.declared.step.Answer.{Answer}
+use Rattle.jobs.specs.declared.step.Answer.the-variants.{Moved, Done, Refused}
 use Rattle.jobs.specs.Admit.{Handed, frontOf}
 
 -- "done" is neither 0 nor a refusal; 14 is left for "waiting"

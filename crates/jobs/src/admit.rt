@@ -1,12 +1,12 @@
 // The admission of a batch: all that can be refused is refused here, and nothing is written.
-use crate::front::job_front;
-use crate::job::Batch;
-use crate::job::Job;
-use crate::job::count_of;
-use crate::job::lengths_of;
-use crate::share::do_meet;
-use crate::work::check_work;
 use frame::record::Frame;
+use job::front::job_front;
+use job::record::Batch;
+use job::record::Job;
+use job::record::Lengths;
+use job::record::count_of;
+use job::share::do_meet;
+use work::row::check_work;
 ghost use mathlib.Core.Path.{_≡_};
 ghost use mathlib.Core.Bool.{true};
 ghost use Prim.Native.Nat.{_≤_, _<_};
@@ -15,9 +15,42 @@ ghost use Rattle.ground.specs.Span.{firstOf};
 ghost use Rattle.frame.specs.Record.{wellFrame};
 ghost use Rattle.saving.specs.Area.{wellArea};
 ghost use Rattle.loading.specs.Load.{lengthsOf, lent};
-ghost use Rattle.jobs.specs.Job.{jobAt, jobReads};
-ghost use Rattle.jobs.specs.Needs.{Able, Areas};
-ghost use Rattle.jobs.specs.Admit.{handed, jobAnswer, aloneAt, apart, batchAnswer};
+ghost use Rattle.job.specs.Job.{jobAt};
+ghost use Rattle.job.specs.Needs.{Able};
+ghost use Rattle.jobs.specs.Needs.{Areas};
+ghost use Rattle.jobs.specs.Admit.{handed, jobReads, jobAnswer, aloneAt, apart, batchAnswer};
+
+// The two buffers that are written come by their lengths.
+pub(crate) fn lengths_of<'a>(
+    f0: &'a [u8],
+    f1: &'a [u8],
+    f2: &'a [u8],
+    f3: &'a [u8],
+    f4: &'a [u8],
+    f5: &'a [u8],
+    f6: &'a [u8],
+    recs: &[u8],
+    proj: usize,
+    saved: usize,
+) -> Lengths
+    ensures { λ r. ⌜ r ≡ record { fields = lengthsOf (lent (now (f0 .entry)) (now (f1 .entry)) (now (f2 .entry)) (now (f3 .entry)) (now (f4 .entry)) (now (f5 .entry)) (now (f6 .entry))); recs = length (now (recs .entry)); proj = proj; saved = saved } ⌝ }
+{
+    let fields = [
+        f0.len(),
+        f1.len(),
+        f2.len(),
+        f3.len(),
+        f4.len(),
+        f5.len(),
+        f6.len(),
+    ];
+    Lengths {
+        fields,
+        recs: recs.len(),
+        proj,
+        saved,
+    }
+}
 
 // The first of a job's rows of work that lacks something answers.
 fn check_reads<'a>(

@@ -1,13 +1,12 @@
 // One step of a job.
-use crate::front::job_front;
-use crate::job::Answer;
-use crate::job::Batch;
-use crate::job::Job;
-use crate::job::count_of;
-use crate::job::lengths_of;
-use crate::work::check_work;
-use crate::work::do_work;
+use crate::admit::lengths_of;
 use frame::record::Frame;
+use job::front::job_front;
+use job::record::Batch;
+use job::record::Job;
+use job::record::count_of;
+use work::row::check_work;
+use work::row::do_work;
 ghost use mathlib.Core.Path.{_≡_};
 ghost use Prim.Native.Nat.{_<_};
 ghost use lib.ListN.{length};
@@ -15,6 +14,13 @@ ghost use Rattle.ground.specs.Script.{run};
 ghost use Rattle.loading.specs.Load.{lent};
 ghost use Rattle.jobs.specs.Admit.{handed};
 ghost use Rattle.jobs.specs.Step.{answerOf, numberOf, stepNumber, stepDone, stepProj, stepSaved, counted, names, turnNumber, turnBatch, turnProj, turnSaved};
+
+// What a step answers: one more row done, nothing left to do, or a refusal number.
+pub enum Answer {
+    Moved,
+    Done,
+    Refused(u8),
+}
 
 // A job's answer, and its steps done afterwards.
 pub struct Stepped {

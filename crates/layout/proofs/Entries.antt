@@ -13,9 +13,10 @@ use lib.Seq.{set-set, set-comm}
 use Rattle.ground.specs.Put.{put, copies}
 use Rattle.ground.specs.Little.{fourBytes, fours}
 use Rattle.ground.proofs.Puts.{put-append, put-length, copies-length}
-use Rattle.frame.specs.declared.sizes.Sizes.{Sizes}
-use Rattle.frame.specs.Sizes.{superblock, partOf}
-use Rattle.rows.specs.Table.{tab, offsetOf, partner, rowOf, rowAt, placed, entryAt, tableOf}
+use Rattle.extent.specs.declared.sizes.Sizes.{Sizes}
+use Rattle.extent.specs.Sizes.{superblock, partOf}
+use Rattle.ground.specs.Tab.{tab}
+use Rattle.rows.specs.Table.{offsetOf, partner, rowOf, rowAt, placed, entryAt, tableOf}
 use Rattle.rows.specs.declared.setup.TileRange.{TileRange}
 use Rattle.rows.specs.Setup.{partStart, oddRow, tableFor, cutTo, tileOf}
 use Rattle.rows.proofs.Tabled.{sides, off-fits}

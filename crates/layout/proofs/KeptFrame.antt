@@ -21,25 +21,27 @@ use Rattle.ground.specs.Little.{fours}
 use Rattle.ground.proofs.Picks.{both}
 use Rattle.ground.proofs.Belows as belows
 use Rattle.ground.proofs.Littles.{four-whole}
-use Rattle.frame.specs.declared.description.Description.{Description}
-use Rattle.frame.specs.declared.sizes.Sizes.{Sizes}
-use Rattle.frame.specs.declared.distances.RefHint.{RefHint}
+use Rattle.hints.specs.declared.description.Description.{Description}
+use Rattle.extent.specs.declared.sizes.Sizes.{Sizes}
+use Rattle.hints.specs.declared.distances.RefHint.{RefHint}
 use Rattle.frame.specs.declared.mfmv.Mfmv.{Mfmv}
 use Rattle.frame.specs.declared.mfmv.Ref2Cur.{Ref2Cur}
 use Rattle.frame.specs.declared.mfmv.Ref2Cur.the-variants.{Skipped, At}
 use Rattle.frame.specs.declared.record.Frame.{Frame}
-use Rattle.frame.specs.Description.{under, setupAnswer, hintAt}
-use Rattle.frame.specs.Distances.{seven, refHints, fromCurrent, wellHint}
-use Rattle.frame.specs.Selection.{selected}
-use Rattle.frame.specs.Mfmv.{far, towards, refToRef, mfmvOf, idle, noMfmv, slotOf, slots, selectable, wellCur, wellMfmv}
-use Rattle.frame.specs.Sizes.{wellSizes}
+use Rattle.hints.specs.Description.{under, setupAnswer, hintAt}
+use Rattle.hints.specs.Distances.{seven, refHints, fromCurrent, wellHint}
+use Rattle.hints.specs.Selection.{selected}
+use Rattle.frame.specs.Mfmv.{far, towards, refToRef, mfmvOf, idle, noMfmv, slotOf, slots, wellCur, wellMfmv}
+use Rattle.hints.specs.Selection.{selectable}
+use Rattle.extent.specs.Sizes.{wellSizes}
 use Rattle.frame.specs.Record.{frameOf, noHint, wellFrame}
-use Rattle.frame.proofs.Sizing.{Fits, fits, eighths-most, stride-most, blocks-most}
+use Rattle.extent.proofs.Sizing.{Fits, fits, eighths-most, stride-most, blocks-most}
 use Rattle.frame.proofs.Records.{setup-passes, frame-sizes}
-use Rattle.rows.specs.Table.{tab}
+use Rattle.ground.specs.Tab.{tab}
 use Rattle.rows.proofs.Tabled.{sides}
 use Rattle.layout.specs.FrameBytes.{sizesAt, refHintAt, refHintsAt, skippedMark, curOf, offsetsAt, mfmvAt, frameAt, sizeNumbers, hintBytes, hintsBytes, curNumber, mfmvBytes, mfmvsBytes, frameBytes}
-use Rattle.layout.proofs.Places.{Agree, four-same, half-same, laid-agrees, half-read, tab-all}
+use Rattle.ground.proofs.Tabs.{tab-all}
+use Rattle.layout.proofs.Places.{Agree, four-same, half-same, laid-agrees, half-read}
 
 -- Bytes that agree hold the same record.
 module _ (l m : List ℕ) (n : ℕ) (agree : Agree l m n) where

@@ -15,21 +15,23 @@ use Rattle.ground.proofs.Picks.{pick-true, and-last}
 use Rattle.ground.proofs.Littles.{four-whole}
 use Rattle.cells.specs.declared.pos.Pos4.{Pos4}
 use Rattle.frame.specs.declared.record.Frame.{Frame}
-use Rattle.frame.specs.Sizes.{records, wellSizes}
-use Rattle.frame.proofs.Sizing.{fits, part-fits, eighths-most, blocks-most, records-most}
+use Rattle.extent.specs.Sizes.{records, wellSizes}
+use Rattle.extent.proofs.Sizing.{fits, part-fits, eighths-most, blocks-most, records-most}
 use Rattle.frame.proofs.Records.{frame-sizes}
 use Rattle.rows.specs.declared.table.Place.{Place}
 use Rattle.rows.specs.declared.table.Place.the-variants.{Absent, At}
 use Rattle.rows.specs.declared.setup.TileRange.{TileRange}
 use Rattle.rows.specs.declared.setup.Tile.{Tile}
-use Rattle.rows.specs.Table.{none, tab, tableOf, placeAt}
+use Rattle.ground.specs.Tab.{tab}
+use Rattle.rows.specs.Table.{none, tableOf, placeAt}
 use Rattle.rows.specs.Setup.{tableFor, cutTo, tileOf, inFrame, rowsAnswer}
-use Rattle.rows.specs.Splat.{holds}
-use Rattle.rows.proofs.Tabled.{tab-at}
+use Rattle.splats.specs.Splat.{holds}
+use Rattle.ground.proofs.Tabs.{tab-at}
 use Rattle.rows.proofs.Parts.{in-frame, rows-accepted}
 use Rattle.rows.proofs.Apart.{row-listed}
 use Rattle.layout.specs.TileBytes.{absentMark, placeOf, placeNumber, entryIn, tileAt, entryNumber, boundNumbers, tileBytes}
-use Rattle.layout.proofs.Places.{Agree, four-same, laid-agrees, fours-at, tab-length, tab-cong, tab-all}
+use Rattle.ground.proofs.Tabs.{tab-length, tab-cong, tab-all}
+use Rattle.layout.proofs.Places.{Agree, four-same, laid-agrees, fours-at}
 
 -- a place whose number is no mark
 Unmarked : Place → Type 0

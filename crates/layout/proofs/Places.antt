@@ -16,8 +16,8 @@ use Rattle.ground.specs.Little.{fourAt, fourBytes, fours}
 use Rattle.ground.proofs.Puts.{put-inside}
 use Rattle.ground.proofs.Littles.{four-whole}
 use Rattle.ground.proofs.Bits.{same}
-use Rattle.rows.specs.Table.{tab}
-use Rattle.rows.proofs.Tabled.{tab-at}
+use Rattle.ground.specs.Tab.{tab}
+use Rattle.ground.proofs.Tabs.{tab-at}
 
 -- two lists with the same first n bytes
 abbrev pub Agree : List ℕ → List ℕ → ℕ → Type 0
@@ -59,18 +59,3 @@ fours-at (n ∷ ns) rest (suc k) h b =
     (fours-at ns rest k (omega arith) b)
 
 -- a list by its entries
-pub tab-length : {A : Type 0} (f : ℕ → A) (i n : ℕ) → length (tab f i n) ≡ n
-unfolding tab
-tab-length f i zero = refl
-tab-length f i (suc n) = ap suc (tab-length f (suc i) n)
-
-pub tab-cong : {A : Type 0} (f g : ℕ → A) (i n : ℕ) → ((k : ℕ) → i ≤ k → k < i + n → f k ≡ g k) → tab f i n ≡ tab g i n
-unfolding tab
-tab-cong f g i zero h = refl
-tab-cong f g i (suc n) h =
-    rw (h i (omega arith) (omega arith), tab-cong f g (suc i) n (λ k a b. h k (omega arith) (omega arith)))
-
-pub tab-all : {A : Type 0} (d : A) (xs : List A) (n : ℕ) → length xs ≡ n → tab (λ i. getD xs i d) 0 n ≡ xs
-tab-all d xs n e =
-    ext-getD d (tab (λ i. getD xs i d) 0 n) xs (tab-length (λ i. getD xs i d) 0 n ∙ sym e)
-    (λ i h. tab-at (λ i. getD xs i d) d 0 n i (rw tab-length at h) ∙ ap (λ (k : ℕ). getD xs k d) (zero-add i))

@@ -12,8 +12,8 @@ use Rattle.ground.specs.Little.{fourAt}
 use Rattle.ground.proofs.Picks.{pick-false}
 use Rattle.frame.specs.Mfmv.{noMfmv}
 use Rattle.frame.specs.Record.{noHint, wellFrame}
-use Rattle.frame.specs.Sizes.{wellSizes}
-use Rattle.frame.specs.declared.sizes.Sizes.{Sizes}
+use Rattle.extent.specs.Sizes.{wellSizes}
+use Rattle.extent.specs.declared.sizes.Sizes.{Sizes}
 use Rattle.frame.proofs.Records.{frame-sizes}
 use Rattle.rows.specs.declared.table.Place.the-variants.{Absent}
 use Rattle.rows.specs.declared.table.RowEntry.{RowEntry}
@@ -21,8 +21,8 @@ use Rattle.rows.specs.Table.{none, placeAt}
 use Rattle.rows.specs.declared.setup.TileRange.{TileRange}
 use Rattle.rows.specs.Setup.{inFrame, rowsAnswer}
 use Rattle.rows.proofs.Parts.{rows-accepted}
-use Rattle.rows.proofs.Tabled.{tab-at}
-use Rattle.rows.proofs.Splats.{entry-at}
+use Rattle.ground.proofs.Tabs.{tab-at}
+use Rattle.rows.proofs.Tabled.{entry-at}
 use Rattle.layout.specs.FrameBytes.{sizesAt, refHintAt, refHintsAt, mfmvAt, frameAt}
 use Rattle.layout.specs.TileBytes.{placeOf, entryIn, tileAt}
 

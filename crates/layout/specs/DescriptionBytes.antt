@@ -4,7 +4,7 @@ use Prim.Native.Nat.{ℕ}
 use mathlib.Core.List.{List}
 use lib.ListN.{getD, take, drop}
 use Rattle.ground.specs.Little.{twoAt}
-use Rattle.frame.specs.declared.description.Description.{Description}
+use Rattle.hints.specs.declared.description.Description.{Description}
 
 -- the description whose hints are the first 7 and the first 49 bytes of what is lent
 unfoldable pub described : (width height sb128 hintBits currentHint : ℕ) (hints hintsByRef : List ℕ) (tileRows tileThreads frameThreads temporal : ℕ) → Description

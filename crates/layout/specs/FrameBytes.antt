@@ -8,8 +8,8 @@ use Rattle.ground.specs.Pick.{pick}
 use Rattle.ground.specs.Sign.{eqZ}
 use Rattle.ground.specs.Twos.{halfAt, halfOf}
 use Rattle.ground.specs.Little.{fourAt, fours}
-use Rattle.frame.specs.declared.sizes.Sizes.{Sizes}
-use Rattle.frame.specs.declared.distances.RefHint.{RefHint}
+use Rattle.extent.specs.declared.sizes.Sizes.{Sizes}
+use Rattle.hints.specs.declared.distances.RefHint.{RefHint}
 use Rattle.frame.specs.declared.mfmv.Mfmv.{Mfmv}
 use Rattle.frame.specs.declared.mfmv.Ref2Cur.{Ref2Cur}
 use Rattle.frame.specs.declared.mfmv.Ref2Cur.the-variants.{Skipped, At}

@@ -11,7 +11,8 @@ use Rattle.rows.specs.declared.table.Place.the-variants.{Absent, At}
 use Rattle.rows.specs.declared.table.RowEntry.{RowEntry}
 use Rattle.rows.specs.declared.setup.TileRange.{TileRange}
 use Rattle.rows.specs.declared.setup.Tile.{Tile}
-use Rattle.rows.specs.Table.{none, tab}
+use Rattle.ground.specs.Tab.{tab}
+use Rattle.rows.specs.Table.{none}
 
 -- the largest number of four bytes stands for an absent row
 abbrev pub absentMark : ℕ

@@ -20,8 +20,8 @@ use Rattle.ground.proofs.Picks.{both, pick-true, pick-false, or-off}
 use Rattle.ground.proofs.Products.{row-fits}
 use Rattle.ground.proofs.Spans as spans
 use Rattle.frame.specs.declared.record.Frame.{Frame}
-use Rattle.frame.specs.Description.{under}
-use Rattle.frame.specs.Sizes.{savedCells, projectedCells}
+use Rattle.hints.specs.Description.{under}
+use Rattle.extent.specs.Sizes.{savedCells, projectedCells}
 use Rattle.frame.specs.Record.{wellFrame}
 use Rattle.frame.proofs.Records.{frame-sizes}
 use Rattle.cells.specs.declared.cell.Cell.{Cell}

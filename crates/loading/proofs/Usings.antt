@@ -18,12 +18,13 @@ use Rattle.frame.specs.declared.mfmv.Mfmv.{Mfmv}
 use Rattle.frame.specs.declared.mfmv.Ref2Cur.{Ref2Cur}
 use Rattle.frame.specs.declared.mfmv.Ref2Cur.the-variants.{Skipped, At}
 use Rattle.frame.specs.declared.record.Frame.{Frame}
-use Rattle.frame.specs.Description.{under}
-use Rattle.frame.specs.Mfmv.{noMfmv, selectable, wellCur, wellMfmv}
-use Rattle.frame.specs.Distances.{wellHint}
-use Rattle.frame.specs.Sizes.{wellSizes}
+use Rattle.hints.specs.Description.{under}
+use Rattle.frame.specs.Mfmv.{noMfmv, wellCur, wellMfmv}
+use Rattle.hints.specs.Selection.{selectable}
+use Rattle.hints.specs.Distances.{wellHint}
+use Rattle.extent.specs.Sizes.{wellSizes}
 use Rattle.frame.specs.Record.{noHint, wellFrame}
-use Rattle.frame.proofs.Described.{under-at}
+use Rattle.hints.proofs.Described.{under-at}
 use Rattle.loading.specs.declared.used.Used.{Used}
 use Rattle.loading.specs.declared.used.Uses.{Uses}
 use Rattle.loading.specs.Used.{usedAs, useFor, useOf, usedOf, used, idleUse, heldAs, usesOf, noUse, useAt}

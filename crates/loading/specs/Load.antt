@@ -12,8 +12,8 @@ use Rattle.ground.specs.Script.{Patch}
 use Rattle.ground.specs.Span.{span, firstOf}
 use Rattle.cells.specs.declared.cell.Cell.{Cell}
 use Rattle.frame.specs.declared.record.Frame.{Frame}
-use Rattle.frame.specs.Sizes.{savedCells, projectedCells}
-use Rattle.frame.specs.Description.{under}
+use Rattle.extent.specs.Sizes.{savedCells, projectedCells}
+use Rattle.hints.specs.Description.{under}
 use Rattle.frame.specs.Record.{wellFrame}
 use Rattle.saving.specs.declared.area.Area.{Area}
 use Rattle.saving.specs.declared.area.Window.{Window}

@@ -1,19 +1,26 @@
 -- What is known of a neighbour that was read, and of the number of a refusal.
 -- Assumes nothing.
-use mathlib.Core.Path.{_≡_, refl, sym, _∙_, subst}
-use mathlib.Core.Bool.{Bool, true, false, not}
+use mathlib.Core.Path.{_≡_, refl, sym, ap, _∙_, subst}
+use mathlib.Core.Bool.{Bool, true, false, _&&_, not, true≢false}
 use mathlib.Core.List.{List}
 use mathlib.Core.Logic.{_⊎_, inl, inr}
 use Prim.Native.Nat.{ℕ, _+_, _≤_}
 use native.Mathlib.Omega.{arith}
-use lib.Dec.{ltb}
+use lib.Dec.{ltb, leb}
+use lib.IntN.{pos, negsuc}
+use borrow.Author.Tests.{leb-true}
 use Rattle.ground.specs.Pick.{pick}
+use Rattle.ground.specs.Sign.{fromTo}
+use Rattle.ground.specs.Below.{allBelow}
+use Rattle.ground.proofs.Belows.{at}
+use Rattle.ground.proofs.Picks.{both}
 use Rattle.cells.specs.declared.block.Block.{Block}
+use Rattle.cells.specs.declared.size.Dims.{Dims}
 use Rattle.cells.specs.declared.size.Sized.{Sized}
 use Rattle.cells.specs.declared.size.Sized.the-variants as sized-as
-use Rattle.cells.specs.Block.{blockAt, wellBlock}
+use Rattle.cells.specs.Block.{blockAt, boundTo, wellBlock}
 use Rattle.cells.specs.Size.{sizeOf}
-use Rattle.cells.proofs.Sizes.{Narrow, narrow}
+use Rattle.cells.proofs.Sizes.{narrow}
 use Rattle.rows.specs.declared.table.Place.{Place}
 use Rattle.rows.specs.declared.table.Place.the-variants.{Absent, At}
 use Rattle.rows.specs.declared.table.RowEntry.{RowEntry}
@@ -22,13 +29,11 @@ use Rattle.neighbours.specs.declared.read.Neighbour.{Neighbour}
 use Rattle.neighbours.specs.declared.read.Line.{Line}
 use Rattle.neighbours.specs.declared.read.Read.{Read}
 use Rattle.neighbours.specs.declared.read.Read.the-variants.{Of, Refused}
-use Rattle.neighbours.specs.Neighbour.{sized, judged, recordAt, inRow, readAt, entryOf, colOf, lineAt}
+use Rattle.neighbours.specs.Neighbour.{judged, recordAt, inRow, readAt, sideIn, sideOf, alongOf, acrossOf, entryOf, colOf, lineAt}
 
--- a well formed record, with the dimensions of its size, 1 to 32 units each
+-- a well formed record
 pub record Known (k : Neighbour) : Type 0 where
   pub well : wellBlock (k .block) ≡ true
-  pub size : sizeOf (k .block .bs) ≡ sized-as.Of (k .dims)
-  pub sides : Narrow (k .dims)
 
 -- document 01's refusals of a read
 abbrev pub Listed : ℕ → Type 0
@@ -38,16 +43,12 @@ abbrev pub Told : Read → Type 0
 Told (Of k) = Known k
 Told (Refused n) = Listed n
 
-told-sized : (k : Block) (s : Sized) → wellBlock k ≡ true → sizeOf (k .bs) ≡ s → Told (sized k s)
-told-sized k sized-as.Refused w e = inr (inr refl)
-told-sized k (sized-as.Of d) w e = record { well = w; size = e; sides = narrow (k .bs) d e }
-
 told-judged : (k : Block) → Told (judged k)
 unfolding judged
 told-judged k = cases (wellBlock k) refl
   where
-    cases : (b : Bool) → wellBlock k ≡ b → Told (pick (not b) (Refused 8) (sized k (sizeOf (k .bs))))
-    cases true e = told-sized k (sizeOf (k .bs)) e refl
+    cases : (b : Bool) → wellBlock k ≡ b → Told (pick b (Of (record { block = k })) (Refused 8))
+    cases true e = record { well = e }
     cases false e = inr (inr refl)
 
 told-record : (recs : List ℕ) (total o col : ℕ) → Told (recordAt recs total o col)
@@ -81,3 +82,49 @@ is-some {n = n} t e o = some (subst Told (sym e ∙ o) t)
     some (inl h) = omega arith
     some (inr (inl h)) = omega arith
     some (inr (inr h)) = omega arith
+
+-- every code up to 21 has a size: a test that the checker computes over the codes, once
+has-size : Sized → Bool
+has-size (sized-as.Of d) = true
+has-size sized-as.Refused = false
+
+all-sized : allBelow 22 (λ n. has-size (sizeOf n)) ≡ true
+unfolding allBelow has-size sizeOf
+all-sized = refl
+
+pub size-is : (code : ℕ) → code ≤ 21 → (d : Dims) × (sizeOf code ≡ sized-as.Of d)
+unfolding has-size
+size-is code h = by (sizeOf code) refl (at (λ n. has-size (sizeOf n)) 22 code all-sized (omega arith))
+  where
+    by : (z : Sized) → sizeOf code ≡ z → has-size (sizeOf code) ≡ true → (d : Dims) × (sizeOf code ≡ sized-as.Of d)
+    by (sized-as.Of d) e t = (d, e)
+    by sized-as.Refused e t = absurd (true≢false (sym t ∙ ap has-size e))
+
+-- the first of a well formed record's tests
+well-code : (b : Block) → wellBlock b ≡ true → b .bs ≤ 21
+unfolding wellBlock
+well-code b e =
+    let r = b .refs in
+    let one = leb (b .bs) 21 in
+    let two = leb (b .mf) 3 in
+    let three = fromTo (pos 0) (pos 7) (r .first .0) in
+    let four = fromTo (negsuc 0) (pos 7) (r .second .0) in
+    let five = boundTo (b .mv .first) (r .first) in
+    let h5 = both (one && two && three && four && five) (boundTo (b .mv .second) (r .second)) e in
+    let h4 = both (one && two && three && four) five (h5 .0) in
+    let h3 = both (one && two && three) four (h4 .0) in
+    let h2 = both (one && two) three (h3 .0) in
+    leb-true (b .bs) 21 (both one two (h2 .0) .0)
+
+-- a neighbour that was read has sides of 1 to 32 units
+pub some-side : (down : Bool) (k : Neighbour) → Known k → (1 ≤ alongOf down k) × (alongOf down k ≤ 32)
+unfolding alongOf sideOf
+some-side down k n = by down (size-is (k .block .bs) (well-code (k .block) (n .well)))
+  where
+    by : (down : Bool) → (d : Dims) × (sizeOf (k .block .bs) ≡ sized-as.Of d) → (1 ≤ sideIn down (sizeOf (k .block .bs))) × (sideIn down (sizeOf (k .block .bs)) ≤ 32)
+    by true (d, e) = let h = narrow (k .block .bs) d e in rw e (h .some-h, h .few-h)
+    by false (d, e) = let h = narrow (k .block .bs) d e in rw e (h .some-w, h .few-w)
+
+pub across-is : (down : Bool) (k : Neighbour) → acrossOf down k ≡ alongOf (not down) k
+unfolding alongOf acrossOf
+across-is down k = refl

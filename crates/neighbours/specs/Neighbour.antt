@@ -18,13 +18,8 @@ use Rattle.neighbours.specs.declared.read.Line.{Line}
 use Rattle.neighbours.specs.declared.read.Read.{Read}
 use Rattle.neighbours.specs.declared.read.Read.the-variants.{Of, Refused}
 
--- a record with the dimensions of its size code
-abbrev pub sized : Block → Sized → Read
-sized k (sized-as.Of d) = Of (record { block = k; dims = d })
-sized k sized-as.Refused = Refused 8
-
 unfoldable pub judged : Block → Read
-judged k = pick (not (wellBlock k)) (Refused 8) (sized k (sizeOf (k .bs)))
+judged k = pick (wellBlock k) (Of (record { block = k })) (Refused 8)
 
 -- column col of a row that starts at record o; there are `total` listed records
 unfoldable pub recordAt : List ℕ → ℕ → ℕ → ℕ → Read
@@ -38,12 +33,20 @@ inRow recs total col (At o) = recordAt recs total o col
 unfoldable pub readAt : List RowEntry → List ℕ → ℕ → ℕ → ℕ → Read
 readAt rows recs total e col = inRow recs total col (placeAt rows e)
 
--- Along a row and down a column are one: `down` says which. A neighbour's size along the line, and across.
+-- Along a row and down a column are one: `down` says which. A size code's side along the line; a code that is refused has none.
+abbrev pub sideIn : Bool → Sized → ℕ
+sideIn down (sized-as.Of d) = pick down (d .h .0) (d .w .0)
+sideIn down sized-as.Refused = 0
+
+unfoldable pub sideOf : Bool → ℕ → ℕ
+sideOf down code = sideIn down (sizeOf code)
+
+-- a neighbour's size along the line, and across
 unfoldable pub alongOf : Bool → Neighbour → ℕ
-alongOf down k = pick down (k .dims .h .0) (k .dims .w .0)
+alongOf down k = sideOf down (k .block .bs)
 
 unfoldable pub acrossOf : Bool → Neighbour → ℕ
-acrossOf down k = pick down (k .dims .w .0) (k .dims .h .0)
+acrossOf down k = sideOf (not down) (k .block .bs)
 
 abbrev pub entryOf : Line → ℕ → ℕ
 entryOf l i = pick (l .down) (l .entry + i) (l .entry)

@@ -1,7 +1,6 @@
 // A neighbour's record, by its row's entry in the table and its column. Rows and columns of
 // neighbours are one thing, a line along which places are counted.
 use cells::block::Block;
-use cells::size::Dims;
 use cells::size::Sized;
 use cells::size::dimensions;
 use layout::tile_bytes::place_in;
@@ -10,11 +9,10 @@ ghost use mathlib.Core.Path.{_≡_};
 ghost use Prim.Native.Nat.{_+_, _*_, _≤_, _<_, _^_};
 ghost use lib.ListN.{length};
 ghost use Rattle.layout.specs.TileBytes.{tileAt};
-ghost use Rattle.neighbours.specs.Neighbour.{judged, recordAt, readAt, alongOf, acrossOf, entryOf, colOf, lineAt};
+ghost use Rattle.neighbours.specs.Neighbour.{judged, recordAt, readAt, sideOf, alongOf, acrossOf, entryOf, colOf, lineAt};
 
 pub struct Neighbour {
     pub block: Block,
-    pub dims: Dims,
 }
 
 pub enum Read {
@@ -29,24 +27,34 @@ pub struct Line {
     pub down: bool,
 }
 
+// A size code's side along a line.
+fn side(code: u8, down: bool) -> usize
+    ensures { λ r. ⌜ r ≡ sideOf down code ⌝ }
+{
+    match dimensions(code) {
+        Sized::Refused => 0,
+        Sized::Of(d) => {
+            if down {
+                return d.h.0;
+            }
+            d.w.0
+        }
+    }
+}
+
 impl Neighbour {
-    // Its size along a line, and across.
+    // Its size along a line, and across. It is asked where it is needed: a reader that handed it over
+    // would be too large to become part of its callers.
     pub fn along(self, down: bool) -> usize
         ensures { λ r. ⌜ r ≡ alongOf down self ⌝ }
     {
-        if down {
-            return self.dims.h.0;
-        }
-        self.dims.w.0
+        side(self.block.bs, down)
     }
 
     pub fn across(self, down: bool) -> usize
         ensures { λ r. ⌜ r ≡ acrossOf down self ⌝ }
     {
-        if down {
-            return self.dims.w.0;
-        }
-        self.dims.h.0
+        side(self.block.bs, !down)
     }
 }
 
@@ -72,17 +80,14 @@ impl Line {
     }
 }
 
-// With its size; 8 where it isn't well formed.
+// 8 where it isn't well formed.
 fn judge(k: Block) -> Read
     ensures { λ r. ⌜ r ≡ judged k ⌝ }
 {
-    if !k.well_formed() {
-        return Read::Refused(8);
+    if k.well_formed() {
+        return Read::Of(Neighbour { block: k });
     }
-    match dimensions(k.bs) {
-        Sized::Refused => Read::Refused(8),
-        Sized::Of(dims) => Read::Of(Neighbour { block: k, dims }),
-    }
+    Read::Refused(8)
 }
 
 // 4 past the listed records, of which there are total.

@@ -10,20 +10,21 @@ use Rattle.ground.specs.Span.{firstOf}
 use Rattle.ground.proofs.Answers.{refused-not, both-accept}
 use Rattle.ground.proofs.Belows as belows
 use Rattle.ground.proofs.Spans as spans
-use Rattle.frame.specs.declared.sizes.Sizes.{Sizes}
+use Rattle.extent.specs.declared.sizes.Sizes.{Sizes}
 use Rattle.frame.specs.Record.{wellFrame}
-use Rattle.frame.specs.Sizes.{wellSizes, partOf}
+use Rattle.extent.specs.Sizes.{wellSizes, partOf}
 use Rattle.saving.specs.declared.area.Area.{Area}
 use Rattle.saving.specs.Area.{wellArea, stripOf, windowOf}
 use Rattle.saving.proofs.Areas as areas
-use Rattle.jobs.specs.declared.job.Job.{Job}
-use Rattle.jobs.specs.declared.job.Batch.{Batch}
-use Rattle.jobs.specs.Admit.{Handed, lengthsIn, frontOf, jobAnswer, aloneAt, apart, batchAnswer}
-use Rattle.jobs.specs.Job.{jobAt, wellKind, wellBatch, countOf, workRead, jobReads}
-use Rattle.jobs.specs.Share.{meets}
-use Rattle.jobs.proofs.Admits.{formed}
-use Rattle.jobs.proofs.Fronts.{front}
-use Rattle.jobs.proofs.Shared.{Framed, Walked}
+use Rattle.job.specs.declared.record.Job.{Job}
+use Rattle.job.specs.declared.record.Batch.{Batch}
+use Rattle.job.specs.Job.{jobAt, wellKind, wellBatch, countOf}
+use Rattle.job.specs.Share.{meets}
+use Rattle.job.proofs.Batches.{formed}
+use Rattle.job.proofs.Fronts.{front}
+use Rattle.job.proofs.Shared.{Framed, Walked}
+use Rattle.work.specs.Work.{workRead}
+use Rattle.jobs.specs.Admit.{Handed, lengthsIn, frontOf, jobReads, jobAnswer, aloneAt, apart, batchAnswer}
 
 -- one job
 pub record Fit (h : Handed) (j : Job) : Type 0 where

@@ -22,9 +22,10 @@ use Rattle.ground.proofs.Windows.{bump-same, bump-other, kind-moved, kind-finis
 use Rattle.ground.proofs.Orders as orders
 use Rattle.saving.specs.Save.{saveScript}
 use Rattle.loading.specs.Load.{loadScript}
-use Rattle.jobs.specs.declared.job.Job.{Job}
+use Rattle.job.specs.declared.record.Job.{Job}
+use Rattle.job.specs.Job.{noJob, jobAt, isLoad, countOf}
+use Rattle.work.specs.Work.{onProj, onSaved}
 use Rattle.jobs.specs.Admit.{Handed, handed}
-use Rattle.jobs.specs.Job.{noJob, jobAt, isLoad, countOf, onProj, onSaved}
 use Rattle.jobs.specs.Step.{doneNumber, withDone, stepNumber, names}
 use Rattle.order.specs.Desk.{Given, Desk, handedBy, answerTo, turn, plays}
 use Rattle.order.specs.Demand.{Admitted, firstRows, doneBy, AnyOrder, Finishes, Whole, wholeLoad, wholeSave, allLoads, allSaves}

@@ -13,11 +13,11 @@ use Rattle.ground.specs.Pick.{pick}
 use Rattle.ground.specs.Script.{Patch, run}
 use Rattle.ground.specs.Window.{Plan, Shape, Free}
 use Rattle.ground.proofs.Scripts.{run-length, run-outside, run-local}
-use Rattle.frame.specs.declared.sizes.Sizes.{Sizes}
+use Rattle.extent.specs.declared.sizes.Sizes.{Sizes}
 use Rattle.frame.specs.Record.{wellFrame}
-use Rattle.frame.specs.Sizes.{wellSizes, records}
+use Rattle.extent.specs.Sizes.{wellSizes, records}
 use Rattle.frame.proofs.Records.{frame-sizes}
-use Rattle.frame.proofs.Sizing as sizing
+use Rattle.extent.proofs.Sizing as sizing
 use Rattle.rows.specs.declared.table.RowEntry.{RowEntry}
 use Rattle.saving.specs.declared.area.Strip.{Strip}
 use Rattle.saving.specs.declared.area.Window.{Window}
@@ -29,11 +29,12 @@ use Rattle.loading.specs.Load.{rowsOf, stepsOf, stepRead, stepScript}
 use Rattle.loading.specs.Used.{usesOf}
 use Rattle.loading.proofs.Outsides.{step-outside}
 use Rattle.loading.proofs.Steps.{within}
-use Rattle.jobs.specs.declared.job.Job.{Job}
+use Rattle.job.specs.declared.record.Job.{Job}
+use Rattle.job.specs.Job.{jobAt, isLoad, windowIn, stripIn, countOf}
+use Rattle.job.specs.Share.{LoadCell, SaveCell, loadsMeet, savesMeet, meets}
+use Rattle.job.proofs.Shared.{loads-apart, saves-apart}
+use Rattle.work.specs.Work.{workRead, workScript, onProj, onSaved}
 use Rattle.jobs.specs.Admit.{Handed}
-use Rattle.jobs.specs.Job.{jobAt, isLoad, windowIn, stripIn, countOf, workRead, workScript, onProj, onSaved}
-use Rattle.jobs.specs.Share.{LoadCell, SaveCell, loadsMeet, savesMeet, meets}
-use Rattle.jobs.proofs.Shared.{loads-apart, saves-apart}
 use Rattle.order.specs.Desk.{Given, Desk, handedBy}
 use Rattle.order.specs.Demand.{InProj, InSaved}
 use Rattle.order.proofs.Admission.{Fit, Accepted, framed, walked}

@@ -12,15 +12,16 @@ use Rattle.ground.specs.Pick.{pick}
 use Rattle.ground.specs.Script.{run}
 use Rattle.ground.proofs.Answers.{refused-not}
 use Rattle.ground.proofs.Picks.{pick-true, pick-false}
-use Rattle.frame.specs.Description.{under}
+use Rattle.hints.specs.Description.{under}
 use Rattle.frame.specs.Record.{wellFrame}
 use Rattle.saving.specs.Area.{wellArea}
 use Rattle.saving.specs.Save.{saveFront}
 use Rattle.loading.specs.Load.{loadFront}
-use Rattle.jobs.specs.declared.job.Job.{Job}
-use Rattle.jobs.specs.declared.job.Batch.{Batch}
+use Rattle.job.specs.declared.record.Job.{Job}
+use Rattle.job.specs.declared.record.Batch.{Batch}
+use Rattle.job.specs.Job.{noJob, jobAt, isLoad, wellKind, countOf, jobFront}
+use Rattle.work.specs.Work.{workRead, workScript, onProj, onSaved}
 use Rattle.jobs.specs.Admit.{Handed, lengthsIn, frontOf}
-use Rattle.jobs.specs.Job.{noJob, jobAt, isLoad, wellKind, countOf, jobFront, workRead, workScript, onProj, onSaved}
 use Rattle.jobs.specs.Step.{doneNumber, stepNumber, stepDone, stepProj, stepSaved, withDone, names, turnNumber, turnProj, turnSaved, turnBatch}
 use Rattle.order.specs.Desk.{Given, Desk, handedBy, answerTo, turn}
 use Rattle.order.proofs.Admission.{Fit}

@@ -15,17 +15,18 @@ use Rattle.ground.specs.Span.{over, span}
 use Rattle.ground.proofs.Answers.{refused-not, or-accepts}
 use Rattle.ground.proofs.Picks.{pick-true, pick-false}
 use Rattle.ground.proofs.Spans as spans
-use Rattle.frame.specs.Description.{under}
+use Rattle.hints.specs.Description.{under}
 use Rattle.frame.specs.Record.{wellFrame}
-use Rattle.frame.specs.Sizes.{records}
+use Rattle.extent.specs.Sizes.{records}
 use Rattle.saving.specs.Area.{wellArea, stripOf, bottomOf}
 use Rattle.saving.specs.Save.{rowRead, rowPatch, saveTable, saveFront, saveReads, saveAnswer, saveScript}
 use Rattle.loading.specs.Load.{stepsOf, stepRead, stepScript, loadFront, loadReads, loadAnswer, loadScript}
 use Rattle.loading.specs.Used.{usesOf}
 use Rattle.loading.proofs.Steps.{whole-steps}
-use Rattle.jobs.specs.declared.job.Job.{Job}
+use Rattle.job.specs.declared.record.Job.{Job}
+use Rattle.job.specs.Job.{isLoad, windowIn, stripIn, countOf, jobFront}
+use Rattle.work.specs.Work.{workRead, workScript}
 use Rattle.jobs.specs.Admit.{Handed, lengthsIn}
-use Rattle.jobs.specs.Job.{isLoad, windowIn, stripIn, countOf, jobFront, workRead, workScript}
 use Rattle.order.proofs.Admission.{Fit}
 
 accepted-all : (n : ℕ) (ps : List Patch) → n ≡ 0 → ps ≡ accepted n ps

@@ -14,8 +14,8 @@ use Rattle.saving.specs.declared.area.Strip.{Strip}
 use Rattle.saving.specs.declared.area.Window.{Window}
 use Rattle.landing.specs.Lands.{spot}
 use Rattle.landing.specs.Targets.{Outside}
-use Rattle.jobs.specs.Share.{LoadCell, SaveCell}
-use Rattle.jobs.proofs.Shared.{Framed, Walked, place}
+use Rattle.job.specs.Share.{LoadCell, SaveCell}
+use Rattle.job.proofs.Shared.{Framed, Walked, place}
 
 -- the row that a cell of a load's window comes from: of at most 16 rows there is one for each number modulo 16
 abbrev rowFrom : Window → ℕ → ℕ

@@ -12,10 +12,11 @@ use Rattle.ground.specs.Span.{span}
 use Rattle.ground.specs.Window.{named}
 use Rattle.saving.specs.Save.{saveScript}
 use Rattle.loading.specs.Load.{loadScript}
-use Rattle.jobs.specs.declared.job.Job.{Job}
+use Rattle.job.specs.declared.record.Job.{Job}
+use Rattle.job.specs.Job.{jobAt, isLoad, windowIn, stripIn, countOf}
+use Rattle.job.specs.Share.{LoadCell, SaveCell}
+use Rattle.work.specs.Work.{workScript, onProj, onSaved}
 use Rattle.jobs.specs.Admit.{batchAnswer}
-use Rattle.jobs.specs.Job.{jobAt, isLoad, windowIn, stripIn, countOf, workScript, onProj, onSaved}
-use Rattle.jobs.specs.Share.{LoadCell, SaveCell}
 use Rattle.jobs.specs.Step.{doneNumber, withDone}
 use Rattle.order.specs.Desk.{Given, Desk, handedBy, answerTo, turn}
 

@@ -5,7 +5,7 @@ use mathlib.Core.List.{List, [], _∷_}
 use lib.ListN.{length}
 use Rattle.ground.specs.Script.{run}
 use Rattle.frame.specs.declared.record.Frame.{Frame}
-use Rattle.jobs.specs.declared.job.Batch.{Batch}
+use Rattle.job.specs.declared.record.Batch.{Batch}
 use Rattle.jobs.specs.Admit.{Handed, handed}
 use Rattle.jobs.specs.Step.{turnNumber, turnBatch, turnProj, turnSaved}
 

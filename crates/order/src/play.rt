@@ -1,6 +1,6 @@
 // A list of steps, each naming a job.
 use frame::record::Frame;
-use jobs::job::Batch;
+use job::record::Batch;
 use jobs::step::step_of;
 ghost use mathlib.Core.Path.{_≡_};
 ghost use Rattle.loading.specs.Load.{lent};

@@ -16,16 +16,16 @@ use Rattle.ground.specs.Window.{named}
 use Rattle.ground.proofs.Answers.{both-accept}
 use Rattle.ground.proofs.Picks.{pick-true}
 use Rattle.ground.proofs.Scripts.{run-length}
-use Rattle.rows.proofs.Tabled.{tab-at}
-use Rattle.layout.proofs.Places.{tab-length}
+use Rattle.ground.proofs.Tabs.{tab-at}
+use Rattle.ground.proofs.Tabs.{tab-length}
 use Rattle.cells.specs.declared.cell.Cell.{Cell}
 use Rattle.capture.specs.File.{bodyOf}
-use Rattle.jobs.specs.declared.job.Job.{Job}
-use Rattle.jobs.specs.declared.job.Batch.{Batch}
-use Rattle.jobs.specs.Job.{noJob, countOf, jobAt}
-use Rattle.jobs.specs.Bytes.{jobHeld}
+use Rattle.job.specs.declared.record.Job.{Job}
+use Rattle.job.specs.declared.record.Batch.{Batch}
+use Rattle.job.specs.Job.{noJob, countOf, jobAt}
+use Rattle.job.specs.Bytes.{jobHeld}
+use Rattle.job.proofs.Fronts.{count-most}
 use Rattle.jobs.specs.Admit.{batchAnswer}
-use Rattle.jobs.proofs.Fronts.{count-most}
 use Rattle.order.specs.Desk.{Given, Desk, handedBy, plays}
 use Rattle.order.specs.Demand.{Admitted, Finishes, Whole}
 use Rattle.order.proofs.Admission.{accepted}

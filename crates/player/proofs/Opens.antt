@@ -10,15 +10,15 @@ use lib.ListN.{length}
 use borrow.Author.Tests.{not-false}
 use Rattle.ground.proofs.Answers.{refused-not}
 use Rattle.ground.proofs.Picks.{neither}
-use Rattle.frame.specs.declared.description.Description.{Description}
+use Rattle.hints.specs.declared.description.Description.{Description}
 use Rattle.frame.specs.declared.record.Frame.{Frame}
 use Rattle.frame.specs.Record.{frameOf}
 use Rattle.layout.specs.FrameBytes.{frameAt, frameBytes}
 use Rattle.layout.proofs.KeptFrame.{frame-back, setup-holdable}
 use Rattle.ground.specs.Put.{put}
-use Rattle.frame.specs.Description.{setupAnswer}
-use Rattle.jobs.specs.declared.job.Batch.{Batch}
-use Rattle.jobs.specs.Job.{wellBatch}
+use Rattle.hints.specs.Description.{setupAnswer}
+use Rattle.job.specs.declared.record.Batch.{Batch}
+use Rattle.job.specs.Job.{wellBatch}
 use Rattle.capture.specs.File.{wellFile, bodyOf}
 use Rattle.capture.proofs.Files as files
 use Rattle.player.specs.Opened.{describedIn, batchIn, presentIn, frameIn, beyond, unread, openAnswer}

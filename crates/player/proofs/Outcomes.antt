@@ -7,7 +7,7 @@ use lib.Dec.{eqb}
 use borrow.Author.Tests.{eq-eqb, ne-eqb}
 use Rattle.ground.proofs.Answers.{or-accepts, or-refuses}
 use Rattle.ground.proofs.Picks.{pick-true, pick-false}
-use Rattle.jobs.specs.declared.job.Batch.{Batch}
+use Rattle.job.specs.declared.record.Batch.{Batch}
 use Rattle.order.specs.Desk.{Given, Desk, desk, handedBy, plays}
 use Rattle.order.proofs.Admission.{accepted}
 use Rattle.player.specs.Opened.{batchIn, givenIn, openAnswer}

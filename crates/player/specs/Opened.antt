@@ -5,16 +5,16 @@ use mathlib.Core.List.{List, [], _∷_}
 use lib.Dec.{ltb}
 use lib.ListN.{length}
 use Rattle.ground.specs.Pick.{pick}
-use Rattle.frame.specs.declared.description.Description.{Description}
+use Rattle.hints.specs.declared.description.Description.{Description}
 use Rattle.frame.specs.declared.record.Frame.{Frame}
-use Rattle.frame.specs.Description.{setupAnswer}
+use Rattle.hints.specs.Description.{setupAnswer}
 use Rattle.frame.specs.Record.{frameOf}
-use Rattle.rows.specs.Table.{tab}
+use Rattle.ground.specs.Tab.{tab}
 use Rattle.loading.specs.Load.{lent}
-use Rattle.jobs.specs.declared.job.Job.{Job}
-use Rattle.jobs.specs.declared.job.Batch.{Batch}
-use Rattle.jobs.specs.Bytes.{jobHeld}
-use Rattle.jobs.specs.Job.{noJob, wellBatch}
+use Rattle.job.specs.declared.record.Job.{Job}
+use Rattle.job.specs.declared.record.Batch.{Batch}
+use Rattle.job.specs.Bytes.{jobHeld}
+use Rattle.job.specs.Job.{noJob, wellBatch}
 use Rattle.capture.specs.declared.file.Scan.{Scan}
 use Rattle.capture.specs.declared.file.Scan.the-variants.{Malformed, Absent, Present}
 use Rattle.capture.specs.File.{wellFile, scanOf, bodyOf}

@@ -12,7 +12,7 @@ use Rattle.ground.specs.Span.{span}
 use Rattle.vector.specs.Vector.{invalid}
 use Rattle.cells.specs.declared.cell.Cell.{Cell}
 use Rattle.cells.specs.Cell.{cellBytes}
-use Rattle.jobs.specs.declared.job.Batch.{Batch}
+use Rattle.job.specs.declared.record.Batch.{Batch}
 use Rattle.jobs.specs.Admit.{batchAnswer}
 use Rattle.order.specs.Desk.{Given, Desk, desk, handedBy, plays}
 use Rattle.player.specs.Opened.{batchIn, givenIn, openAnswer}

@@ -1,6 +1,6 @@
 // A capture played, and told.
 use crate::cells_of::show_cells;
-use jobs::job::Batch;
+use job::record::Batch;
 use lines::print;
 use player::play::play_capture;
 

@@ -13,9 +13,9 @@ use Rattle.ground.proofs.Picks.{both, pick-true, pick-false}
 use Rattle.ground.proofs.Belows as belows
 use Rattle.ground.proofs.Diffs.{Which, more, less, which}
 use Rattle.ground.proofs.Products.{row-fits}
-use Rattle.frame.specs.declared.sizes.Sizes.{Sizes}
-use Rattle.frame.specs.Sizes.{superblock, partOf, records, wellSizes}
-use Rattle.frame.proofs.Sizing.{fits, part-fits}
+use Rattle.extent.specs.declared.sizes.Sizes.{Sizes}
+use Rattle.extent.specs.Sizes.{superblock, partOf, records, wellSizes}
+use Rattle.extent.proofs.Sizing.{fits, part-fits}
 use Rattle.rows.specs.declared.table.Place.{Place}
 use Rattle.rows.specs.declared.table.Place.the-variants.{Absent, At}
 use Rattle.rows.specs.Table.{rowOf, partner, offsetOf, rowAt, placed, entryAt, tableOf, placeAt}

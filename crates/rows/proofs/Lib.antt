@@ -1,5 +1,4 @@
 -- The laws of the definitions in specs/.
 pub mod Tabled
 pub mod Parts
-pub mod Splats
 pub mod Apart

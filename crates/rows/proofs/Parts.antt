@@ -9,9 +9,9 @@ use native.Mathlib.Omega.{arith}
 use lib.Dec.{ltb, eqb}
 use borrow.Author.Tests.{ltb-true}
 use Rattle.ground.specs.Pick.{pick}
-use Rattle.frame.specs.declared.sizes.Sizes.{Sizes}
-use Rattle.frame.specs.Sizes.{superblock, partOf, passesOf, records, wellSizes}
-use Rattle.frame.proofs.Sizing.{Fits, fits, part-fits, blocks-most, records-most}
+use Rattle.extent.specs.declared.sizes.Sizes.{Sizes}
+use Rattle.extent.specs.Sizes.{superblock, partOf, passesOf, records, wellSizes}
+use Rattle.extent.proofs.Sizing.{Fits, fits, part-fits, blocks-most, records-most}
 use Rattle.frame.specs.declared.record.Frame.{Frame}
 use Rattle.frame.specs.Record.{wellFrame}
 use Rattle.rows.specs.declared.setup.TileRange.{TileRange}

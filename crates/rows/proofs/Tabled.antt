@@ -1,6 +1,6 @@
 -- What the code stores is what the definition says, in each of the four cases; and an entry of the table by its definition.
 -- Assumes nothing.
-use mathlib.Core.Path.{_≡_, refl, ap, _∙_}
+use mathlib.Core.Path.{_≡_, refl, sym, ap, _∙_}
 use mathlib.Core.Logic.{_⊎_, inl, inr}
 use mathlib.Core.Bool.{Bool, true, false, _||_}
 use mathlib.Core.List.{List}
@@ -11,8 +11,12 @@ use lib.Dec.{eqb}
 use lib.ListN.{getD}
 use borrow.Author.Tests.{lt-ltb, eqb-true}
 use Rattle.ground.specs.Pick.{pick}
-use Rattle.frame.specs.Sizes.{superblock}
+use Rattle.ground.specs.Tab.{tab}
+use Rattle.ground.proofs.Picks.{pick-true}
+use Rattle.ground.proofs.Tabs.{tab-at}
+use Rattle.extent.specs.Sizes.{superblock}
 use Rattle.rows.specs.Table as tables
+use Rattle.rows.specs.declared.table.Place.the-variants as tables-as
 use Rattle.rows.specs.declared.table.RowEntry.{RowEntry}
 
 -- a superblock's side
@@ -36,13 +40,13 @@ off-fits n odd e = by odd (sides n e)
 
 pub odd-rows : (n first stride : ℕ) → (n ≡ 16) ⊎ (n ≡ 32)
     → tables.swaps (tables.plain n (tables.offsetOf n true) first stride) (tables.offsetOf n true) n ≡ tables.tableOf n true first stride
-unfolding tables.filled tables.plain tables.swaps tables.tab tables.tableOf tables.entryAt tables.placed tables.rowAt tables.rowOf tables.partner tables.offsetOf
+unfolding tables.filled tables.plain tables.swaps tab tables.tableOf tables.entryAt tables.placed tables.rowAt tables.rowOf tables.partner tables.offsetOf
 odd-rows n first stride (inl e) = rw e
 odd-rows n first stride (inr e) = rw e
 
 pub even-rows : (n first stride : ℕ) → (n ≡ 16) ⊎ (n ≡ 32)
     → tables.swaps (tables.plain n (tables.offsetOf n false) first stride) (tables.offsetOf n false) 0 ≡ tables.tableOf n false first stride
-unfolding tables.filled tables.plain tables.swaps tables.tab tables.tableOf tables.entryAt tables.placed tables.rowAt tables.rowOf tables.partner tables.offsetOf
+unfolding tables.filled tables.plain tables.swaps tab tables.tableOf tables.entryAt tables.placed tables.rowAt tables.rowOf tables.partner tables.offsetOf
 even-rows n first stride (inl e) = rw e
 even-rows n first stride (inr e) = rw e
 
@@ -58,15 +62,13 @@ pub apart-fits : (n : ℕ) (odd : Bool) {off apart : ℕ} → superblock n ≡ t
 apart-fits n true s e f = omega (arith, off-fits n true s)
 apart-fits n false s e f = omega (arith, off-fits n false s)
 
--- an entry of a table that is made by a rule
-pub tab-at : {A : Type 0} (f : ℕ → A) (d : A) (from n k : ℕ) → k < n → getD (tables.tab f from n) k d ≡ f (from + k)
-unfolding tables.tab
-tab-at f d from zero k h = absurd (lt-irrefl k (omega arith))
-tab-at f d from (suc n) zero h = ap f (omega arith)
-tab-at f d from (suc n) (suc k) h = tab-at f d (suc from) n k (omega arith) ∙ ap f (omega arith)
-
 pub entry : (n : ℕ) (odd : Bool) (first stride k : ℕ) → k < 37
     → tables.placeAt (tables.tableOf n odd first stride) k ≡ tables.entryAt n odd first stride k .at
 unfolding tables.tableOf tables.placeAt
 entry n odd first stride k h =
     rw (lt-ltb k 37 h, tab-at (tables.entryAt n odd first stride) tables.none 0 37 k h, zero-add k)
+
+-- an entry of the table is a place
+pub entry-at : (rows : List RowEntry) (e : ℕ) → e < 37 → getD rows e tables.none .at ≡ tables.placeAt rows e
+unfolding tables.placeAt
+entry-at rows e h = sym (pick-true tables-as.Absent (lt-ltb e 37 h))

@@ -6,9 +6,9 @@ use lib.Dec.{eqb, ltb, leb}
 use lib.ListN.{replicate}
 use Rattle.ground.specs.Pick.{pick}
 use Rattle.ground.specs.Answer.{beside}
-use Rattle.frame.specs.declared.sizes.Sizes.{Sizes}
+use Rattle.extent.specs.declared.sizes.Sizes.{Sizes}
 use Rattle.frame.specs.declared.record.Frame.{Frame}
-use Rattle.frame.specs.Sizes.{partOf}
+use Rattle.extent.specs.Sizes.{partOf}
 use Rattle.frame.specs.Record.{wellFrame}
 use Rattle.rows.specs.declared.table.RowEntry.{RowEntry}
 use Rattle.rows.specs.declared.setup.TileRange.{TileRange}

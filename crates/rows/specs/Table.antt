@@ -5,6 +5,7 @@ use Prim.Native.Nat.{ℕ, zero, suc, _+_, _-_, _*_}
 use lib.Dec.{eqb, ltb, leb}
 use lib.ListN.{getD, set, replicate}
 use Rattle.ground.specs.Pick.{pick}
+use Rattle.ground.specs.Tab.{tab}
 use Rattle.rows.specs.declared.table.Place.{Place}
 use Rattle.rows.specs.declared.table.Place.the-variants.{Absent, At}
 use Rattle.rows.specs.declared.table.RowEntry.{RowEntry}
@@ -47,11 +48,6 @@ placed first stride (At j) = there (first + j * stride)
 
 unfoldable pub entryAt : ℕ → Bool → ℕ → ℕ → ℕ → RowEntry
 entryAt n odd first stride e = placed first stride (rowAt n odd e)
-
--- f of the n numbers from i on
-unfoldable pub tab : {A : Type 0} → (ℕ → A) → ℕ → ℕ → List A
-tab f i zero = []
-tab f i (suc n) = f i ∷ tab f (suc i) n
 
 unfoldable pub tableOf : ℕ → Bool → ℕ → ℕ → List RowEntry
 tableOf n odd first stride = tab (entryAt n odd first stride) 0 37

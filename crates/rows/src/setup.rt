@@ -3,12 +3,12 @@ use crate::table::Place;
 use crate::table::RowEntry;
 use crate::table::table_of;
 use cells::pos::Pos4;
+use extent::sizes::Sizes;
 use frame::record::Frame;
-use frame::sizes::Sizes;
 ghost use mathlib.Core.Path.{_≡_};
 ghost use mathlib.Core.Bool.{true, _&&_};
 ghost use Prim.Native.Nat.{_*_, min};
-ghost use Rattle.frame.specs.Sizes.{partOf, wellSizes};
+ghost use Rattle.extent.specs.Sizes.{partOf, wellSizes};
 ghost use Rattle.rows.specs.Setup.{passStart, partStart, tableFor, cutTo, tileOf, ordered, inFrame, isPass, rowsAnswer, noTile, rowSetupOf};
 
 // From start to before end.

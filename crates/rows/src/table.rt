@@ -5,7 +5,7 @@ ghost use mathlib.Core.Path.{_≡_};
 ghost use Prim.Native.Nat.{_+_, _*_, _≤_, _<_, _^_};
 ghost use mathlib.Core.Bool.{true};
 ghost use Rattle.ground.specs.Pick.{pick};
-ghost use Rattle.frame.specs.Sizes.{superblock};
+ghost use Rattle.extent.specs.Sizes.{superblock};
 ghost use Rattle.rows.specs.Table.{filled, swapped, swaps, plain, offsetOf, tableOf, placeAt};
 
 // The number of a row's first record.

@@ -8,9 +8,9 @@ use lib.Dec.{leb, ltb}
 use borrow.Author.Tests.{leb-true, ltb-true}
 use Rattle.ground.specs.Pick.{pick}
 use Rattle.ground.proofs.Picks.{both}
-use Rattle.frame.specs.declared.sizes.Sizes.{Sizes}
-use Rattle.frame.specs.Sizes.{partOf, projectedCells, wellSizes}
-use Rattle.frame.proofs.Sizing as sizing
+use Rattle.extent.specs.declared.sizes.Sizes.{Sizes}
+use Rattle.extent.specs.Sizes.{partOf, projectedCells, wellSizes}
+use Rattle.extent.proofs.Sizing as sizing
 use Rattle.rows.specs.Setup.{inFrame}
 use Rattle.rows.proofs.Parts.{in-frame}
 use Rattle.saving.specs.declared.area.Area.{Area}

@@ -32,9 +32,9 @@ use Rattle.cells.specs.declared.block.Block.{Block}
 use Rattle.cells.specs.declared.cell.Cell.{Cell}
 use Rattle.cells.specs.Cell.{cellAt, cellBytes}
 use Rattle.cells.proofs.Cells.{cell-outside, cell-back}
-use Rattle.frame.specs.declared.distances.RefHint.{RefHint}
+use Rattle.hints.specs.declared.distances.RefHint.{RefHint}
 use Rattle.frame.specs.declared.record.Frame.{Frame}
-use Rattle.frame.specs.Sizes.{records}
+use Rattle.extent.specs.Sizes.{records}
 use Rattle.rows.specs.declared.table.Place.{Place}
 use Rattle.rows.specs.declared.table.Place.the-variants.{Absent, At}
 use Rattle.rows.specs.declared.table.RowEntry.{RowEntry}

@@ -12,8 +12,8 @@ use borrow.Author.Tests.{ltb-false, not-false}
 use Rattle.ground.proofs.Answers.{refused-not, both-accept, or-accepts, or-refuses}
 use Rattle.ground.proofs.Products.{row-fits}
 use Rattle.frame.specs.declared.record.Frame.{Frame}
-use Rattle.frame.specs.declared.sizes.Sizes.{Sizes}
-use Rattle.frame.specs.Sizes.{savedCells, records, wellSizes}
+use Rattle.extent.specs.declared.sizes.Sizes.{Sizes}
+use Rattle.extent.specs.Sizes.{savedCells, records, wellSizes}
 use Rattle.frame.specs.Record.{wellFrame}
 use Rattle.frame.proofs.Records.{frame-sizes}
 use Rattle.rows.specs.Setup.{isPass}

@@ -29,13 +29,13 @@ use Rattle.cells.specs.Size.{sizeOf}
 use Rattle.cells.specs.Cell.{cellBytes}
 use Rattle.cells.specs.Block.{wellBlock}
 use Rattle.cells.proofs.Sizes.{narrow}
-use Rattle.frame.specs.declared.distances.RefHint.{RefHint}
+use Rattle.hints.specs.declared.distances.RefHint.{RefHint}
 use Rattle.frame.specs.Record.{noHint}
 use Rattle.rows.specs.declared.table.Place.{Place}
 use Rattle.rows.specs.declared.table.Place.the-variants.{Absent, At}
 use Rattle.rows.specs.declared.table.RowEntry.{RowEntry}
 use Rattle.rows.specs.Table.{none, placeAt}
-use Rattle.rows.proofs.Splats.{entry-at}
+use Rattle.rows.proofs.Tabled.{entry-at}
 use Rattle.saving.specs.declared.area.Strip.{Strip}
 use Rattle.saving.specs.Save.{usable, noCell, firstOfTwo, secondOfTwo, chosen, halfWidth, cellsWide, recordOf, blockOn, wideOn, blockRead, walkRead, walkBytes, entryOf, placeRead, rowRead, placePatch, rowPatch}
 use Rattle.saving.specs.Walk.{usableBy, hintPlace, chosenBy, recordRead, stripRead}

@@ -3,8 +3,8 @@ use Prim.Native.Nat.{ℕ, _*_, _-_, min}
 use mathlib.Core.Bool.{Bool, _&&_}
 use lib.Dec.{ltb, leb}
 use Rattle.ground.specs.Pick.{pick}
-use Rattle.frame.specs.declared.sizes.Sizes.{Sizes}
-use Rattle.frame.specs.Sizes.{partOf}
+use Rattle.extent.specs.declared.sizes.Sizes.{Sizes}
+use Rattle.extent.specs.Sizes.{partOf}
 use Rattle.rows.specs.Setup.{inFrame}
 use Rattle.saving.specs.declared.area.Area.{Area}
 use Rattle.saving.specs.declared.area.Strip.{Strip}

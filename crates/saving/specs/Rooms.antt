@@ -3,7 +3,7 @@ use Prim.Native.Nat.{ℕ, _+_, _*_, _≤_, _<_}
 use mathlib.Core.Path.{_≡_}
 use mathlib.Core.Bool.{true}
 use Rattle.frame.specs.declared.record.Frame.{Frame}
-use Rattle.frame.specs.Sizes.{records}
+use Rattle.extent.specs.Sizes.{records}
 use Rattle.frame.specs.Record.{wellFrame}
 use Rattle.saving.specs.declared.area.Area.{Area}
 use Rattle.saving.specs.declared.area.Strip.{Strip}

@@ -19,9 +19,9 @@ use Rattle.cells.specs.declared.size.Sized.the-variants.{Of, Refused}
 use Rattle.cells.specs.Size.{sizeOf}
 use Rattle.cells.specs.Cell.{cellBytes}
 use Rattle.cells.specs.Block.{blockAt, wellBlock}
-use Rattle.frame.specs.declared.distances.RefHint.{RefHint}
+use Rattle.hints.specs.declared.distances.RefHint.{RefHint}
 use Rattle.frame.specs.declared.record.Frame.{Frame}
-use Rattle.frame.specs.Sizes.{savedCells, records}
+use Rattle.extent.specs.Sizes.{savedCells, records}
 use Rattle.frame.specs.Record.{noHint, wellFrame}
 use Rattle.rows.specs.declared.table.Place.{Place}
 use Rattle.rows.specs.declared.table.Place.the-variants.{Absent, At}

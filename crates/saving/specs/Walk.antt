@@ -11,7 +11,7 @@ use Rattle.vector.specs.Vector.{within}
 use Rattle.cells.specs.declared.block.Block.{Block}
 use Rattle.cells.specs.declared.cell.Cell.{Cell}
 use Rattle.cells.specs.Block.{wellBlock}
-use Rattle.frame.specs.declared.distances.RefHint.{RefHint}
+use Rattle.hints.specs.declared.distances.RefHint.{RefHint}
 use Rattle.rows.specs.declared.table.Place.{Place}
 use Rattle.saving.specs.declared.area.Strip.{Strip}
 use Rattle.saving.specs.Save.{noCell, secondOfTwo, firstOfTwo, blockOn, placeRead}

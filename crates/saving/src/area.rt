@@ -1,11 +1,11 @@
 // The part of a frame that a load or a save works on.
 use cells::pos::Pos8;
-use frame::sizes::Sizes;
+use extent::sizes::Sizes;
 use rows::setup::in_frame;
 use rows::setup::lesser;
 ghost use mathlib.Core.Path.{_≡_};
 ghost use mathlib.Core.Bool.{true};
-ghost use Rattle.frame.specs.Sizes.{wellSizes};
+ghost use Rattle.extent.specs.Sizes.{wellSizes};
 ghost use Rattle.saving.specs.Area.{wellArea, bottomOf, endOf, limitOf, stripOf, windowOf};
 
 // Columns left..right and rows top..bottom of a tile row, as asked for: not yet cut to the frame.

@@ -4,7 +4,7 @@ use cells::cell::Cell;
 use cells::cell::Ref;
 use cells::size::Sized;
 use cells::size::dimensions;
-use frame::distances::RefHint;
+use hints::distances::RefHint;
 use vector::mv::Mv;
 ghost use mathlib.Core.Path.{_≡_};
 ghost use mathlib.Core.Bool.{true};

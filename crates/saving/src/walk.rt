@@ -8,7 +8,7 @@ use crate::choose::width_after;
 use cells::block::Block;
 use cells::cell::Cell;
 use cells::pos::Pos8;
-use frame::distances::RefHint;
+use hints::distances::RefHint;
 use rows::table::Place;
 use rows::table::RowEntry;
 use rows::table::place_at;

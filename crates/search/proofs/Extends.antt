@@ -18,9 +18,7 @@ use Rattle.neighbours.specs.Neighbour.{lineAt}
 use Rattle.around.specs.Lines.{nearLine}
 use Rattle.around.specs.Around.{Lent}
 use Rattle.around.proofs.Places.{near-down, near-room}
-use Rattle.stack.specs.declared.candidate.Answered.{Answered}
-use Rattle.stack.specs.declared.candidate.Found.{Found}
-use Rattle.stack.specs.Stack.{State, live, view}
+use Rattle.stack.specs.Stack.{State, Found, view}
 use Rattle.stack.specs.Answered.{Outcome, outcome}
 use Rattle.stack.proofs.Answers.{is-found, is-refused}
 use Rattle.extra.specs.declared.walk.Pooled.{Pooled}
@@ -54,48 +52,48 @@ module _ (read : ℕ → ℕ → Read) (b : Site) (down : Bool) (biases : List �
   compound-is refs p e = e ∙ rw (i, j, near-down down b, ne-eqb (depthOf down b) 0 n)
 
 -- the returns of `single_extra`
-module _ (read : ℕ → ℕ → Read) (b : Site) (biases : List ℕ) (r : Ref) (s : State) (above : Answered) (e : outcome above ≡ singleWhere read b false biases r s) where
-  pub single-stops : (above .answer ≡ 0 → ⊥) → outcome above ≡ singleExtra read b biases r s
+module _ (read : ℕ → ℕ → Read) (b : Site) (biases : List ℕ) (r : Ref) (s : State) (above : ℕ) (u : Found) (e : outcome above u ≡ singleWhere read b false biases r s) where
+  pub single-stops : (above ≡ 0 → ⊥) → outcome above u ≡ singleExtra read b biases r s
   unfolding singleExtra
-  single-stops n = rw (← e, is-refused above n)
+  single-stops n = rw (← e, is-refused above u n)
 
-  pub single-ends : {o : Outcome} → above .answer ≡ 0 → o ≡ singleWhere read b true biases r (view (above .found)) → o ≡ singleExtra read b biases r s
+  pub single-ends : {o : Outcome} → above ≡ 0 → o ≡ singleWhere read b true biases r (view u) → o ≡ singleExtra read b biases r s
   unfolding singleExtra
-  single-ends z d = rw (← e, is-found above z) d
+  single-ends z d = rw (← e, is-found above u z) d
 
 -- those of `compound_extra`
 module _ (read : ℕ → ℕ → Read) (b : Site) (biases : List ℕ) (refs : RefPair) (g : MvPair) (s : Found) {p : Both} (k : p ≡ nothing) (above : Pooled) (e : pooled above ≡ compoundWhere read b false biases refs p) where
-  pub compound-stops : (above .answer ≡ 0 → ⊥) → outcome (record { found = s; answer = above .answer }) ≡ compoundExtra read b biases refs g (view s)
+  pub compound-stops : (above .answer ≡ 0 → ⊥) → outcome (above .answer) s ≡ compoundExtra read b biases refs g (view s)
   unfolding compoundExtra
-  compound-stops n = rw (← k, ← e, is-stopped above n) (is-refused (record { found = s; answer = above .answer }) n)
+  compound-stops n = rw (← k, ← e, is-stopped above n) (is-refused (above .answer) s n)
 
   module _ (z : above .answer ≡ 0) (both : Pooled) (d : pooled both ≡ compoundWhere read b true biases refs (poolsOf (above .pools))) where
-    pub compound-stops₂ : (both .answer ≡ 0 → ⊥) → outcome (record { found = s; answer = both .answer }) ≡ compoundExtra read b biases refs g (view s)
+    pub compound-stops₂ : (both .answer ≡ 0 → ⊥) → outcome (both .answer) s ≡ compoundExtra read b biases refs g (view s)
     unfolding compoundExtra
-    compound-stops₂ n = rw (← k, ← e, is-gathered above z, ← d, is-stopped both n) (is-refused (record { found = s; answer = both .answer }) n)
+    compound-stops₂ n = rw (← k, ← e, is-gathered above z, ← d, is-stopped both n) (is-refused (both .answer) s n)
 
     pub compound-ends : {one two : MvPair} (t : Found) → both .answer ≡ 0 → one ≡ pairAt (poolsOf (both .pools)) g 0 → two ≡ pairAt (poolsOf (both .pools)) g 1
-        → view t ≡ completed one two (view s) → outcome (record { found = t; answer = 0 }) ≡ compoundExtra read b biases refs g (view s)
+        → view t ≡ completed one two (view s) → outcome 0 t ≡ compoundExtra read b biases refs g (view s)
     unfolding compoundExtra
     compound-ends t y q v w =
-        rw (← k, ← e, is-gathered above z, ← d, is-gathered both y, ← q, ← v, ← w) (is-found (record { found = t; answer = 0 }) refl)
+        rw (← k, ← e, is-gathered above z, ← d, is-gathered both y, ← q, ← v, ← w) (is-found 0 t refl)
 
 -- and those of `extend`
-module _ (read : ℕ → ℕ → Read) (b : Site) (biases : List ℕ) (refs : RefPair) (g : MvPair) (s : Found) (n : length (live s) ≡ s .count) where
-  pub extra-enough : 2 ≤ s .count → outcome (record { found = s; answer = 0 }) ≡ extraOf read b biases refs g (view s)
-  unfolding view extraOf
-  extra-enough h = rw (n, le-leb 2 (s .count) h) (is-found (record { found = s; answer = 0 }) refl)
+module _ (read : ℕ → ℕ → Read) (b : Site) (biases : List ℕ) (refs : RefPair) (g : MvPair) (s : Found) (n : length (view s .cands) ≡ s .count) where
+  pub extra-enough : 2 ≤ s .count → outcome 0 s ≡ extraOf read b biases refs g (view s)
+  unfolding extraOf
+  extra-enough h = rw (n, le-leb 2 (s .count) h) (is-found 0 s refl)
 
   module _ (h : s .count < 2) where
-    pub extra-none : isRef (refs .first) ≡ false → outcome (record { found = s; answer = 0 }) ≡ extraOf read b biases refs g (view s)
-    unfolding view extraOf
-    extra-none e = rw (n, lt-leb 2 (s .count) h, e) (is-found (record { found = s; answer = 0 }) refl)
+    pub extra-none : isRef (refs .first) ≡ false → outcome 0 s ≡ extraOf read b biases refs g (view s)
+    unfolding extraOf
+    extra-none e = rw (n, lt-leb 2 (s .count) h, e) (is-found 0 s refl)
 
     module _ {o : Outcome} (e : isRef (refs .first) ≡ true) where
       pub extra-compound : isRef (refs .second) ≡ true → o ≡ compoundExtra read b biases refs g (view s) → o ≡ extraOf read b biases refs g (view s)
-      unfolding view extraOf
+      unfolding extraOf
       extra-compound d i = rw (n, lt-leb 2 (s .count) h, e, d) i
 
       pub extra-single : isRef (refs .second) ≡ false → o ≡ singleExtra read b biases (refs .first) (view s) → o ≡ extraOf read b biases refs g (view s)
-      unfolding view extraOf
+      unfolding extraOf
       extra-single d i = rw (n, lt-leb 2 (s .count) h, e, d) i

@@ -13,12 +13,12 @@ use Rattle.ground.proofs.Diffs.{Which, more, less, which}
 use Rattle.ground.proofs.Picks.{pick-true, pick-false}
 use Rattle.vector.specs.declared.mv.Mv.{Mv}
 use Rattle.cells.specs.declared.block.MvPair.{MvPair}
-use Rattle.frame.specs.declared.sizes.Sizes.{Sizes}
+use Rattle.extent.specs.declared.sizes.Sizes.{Sizes}
 use Rattle.frame.specs.declared.record.Frame.{Frame}
 use Rattle.frame.specs.Record.{wellFrame}
-use Rattle.frame.specs.Sizes.{wellSizes, records, projectedCells}
+use Rattle.extent.specs.Sizes.{wellSizes, records, projectedCells}
 use Rattle.frame.proofs.Records.{frame-sizes}
-use Rattle.frame.proofs.Sizing.{fits, eighths-most}
+use Rattle.extent.proofs.Sizing.{fits, eighths-most}
 use Rattle.rows.specs.declared.setup.Tile.{Tile}
 use Rattle.layout.specs.FrameBytes.{sizesAt, frameAt}
 use Rattle.layout.specs.TileBytes.{tileAt}
@@ -28,9 +28,10 @@ use Rattle.neighbours.specs.declared.read.Read.{Read}
 use Rattle.neighbours.specs.declared.want.Want.{Want}
 use Rattle.neighbours.specs.Neighbour.{readAt}
 use Rattle.stack.specs.declared.candidate.Candidate.{Candidate}
-use Rattle.stack.specs.declared.candidate.Found.{Found}
 use Rattle.stack.specs.declared.clamp.Reach.{Reach}
-use Rattle.stack.specs.Stack.{State, live, view, raised}
+use Rattle.stack.specs.Stack.{State, Found, live, view, raised}
+use Rattle.stack.specs.Numbers.{foundAt, viewAt, countAt, Held}
+use Rattle.stack.proofs.Helds.{stack-long}
 use Rattle.stack.proofs.Adds.{live-length}
 use Rattle.stack.specs.Sort.{ordered, sorted}
 use Rattle.stack.specs.Clamp.{clamped}
@@ -39,6 +40,7 @@ use Rattle.temporal.specs.declared.aim.Aim.{Aim}
 use Rattle.temporal.specs.declared.aim.CellRead.{CellRead}
 use Rattle.temporal.specs.declared.sweep.Field.{Field}
 use Rattle.temporal.specs.Temporal.{cellRead}
+use Rattle.temporal.specs.Sweep.{Light}
 use Rattle.front.specs.declared.ask.Ask.{Ask}
 use Rattle.front.specs.Ask.{findFront, wantOf, globalOf, siteOf}
 use Rattle.front.specs.Context.{matchesOf, contextOf}
@@ -47,17 +49,18 @@ use Rattle.around.specs.Around as around
 use Rattle.around.specs.Around.{Lent, nearAll, farAll}
 use Rattle.front.proofs.Fronts.{Passed, site-placed, rows-inside, columns-inside}
 use Rattle.search.specs.declared.find.Findings.{Findings}
+use Rattle.search.specs.declared.find.Nearest.{Nearest}
 use Rattle.search.specs.Parts.{aimOf, fieldOf, temporalWhere, zeroWhere}
 use Rattle.search.specs.Extend.{biasesOf, extraOf}
 use Rattle.search.specs.Find.{Result, refused, got, finding, reachOf, concluded, timed, goneOn, searchOf, findOf, Past}
 
 -- what an answer makes of a search
-module _ (r : Findings) where
-  pub is-refused : 1 ≤ r .answer → finding r ≡ refused (r .answer)
+module _ (r : Findings) (s : Found) where
+  pub is-refused : {n : ℕ} → r .answer ≡ n → (n ≡ 0 → ⊥) → finding r s ≡ refused n
   unfolding finding
-  is-refused h = rw (ne-eqb (r .answer) 0 (λ e. lt-irrefl 0 (omega arith)))
+  is-refused {n} e h = rw (e, ne-eqb n 0 h)
 
-  pub is-got : r .answer ≡ 0 → finding r ≡ got (record { context = r .context; cands = live (r .found); fill = r .fill })
+  pub is-got : r .answer ≡ 0 → finding r s ≡ got (record { context = r .context; cands = live s; fill = r .fill })
   unfolding finding
   is-got e = rw (eq-eqb (r .answer) 0 e)
 
@@ -93,15 +96,15 @@ unfolding ordered
 ordered-min n s = rw (take-min n (s .cands), drop-min n (s .cands))
 
 -- from the sorted stack on
-module _ (read : ℕ → ℕ → Read) (f : Frame) (t : Tile) (a : Ask) (still : ℕ) (near all : State) where
-  pub concludes-not : {n : ℕ} → extraOf read (siteOf t a) (biasesOf f) (a .refs) (globalOf a) (ordered (length (near .cands)) all) ≡ answered.refused n
-      → concluded read f t a still near all ≡ refused n
+module _ (read : ℕ → ℕ → Read) (f : Frame) (t : Tile) (a : Ask) (still count matched : ℕ) (newmv : Bool) (all : State) where
+  pub concludes-not : {n : ℕ} → extraOf read (siteOf t a) (biasesOf f) (a .refs) (globalOf a) (ordered count all) ≡ answered.refused n
+      → concluded read f t a still count matched newmv all ≡ refused n
   unfolding concluded
   concludes-not e = rw e
 
-  concludes : {s : State} → extraOf read (siteOf t a) (biasesOf f) (a .refs) (globalOf a) (ordered (length (near .cands)) all) ≡ answered.found s
-      → concluded read f t a still near all
-      ≡ got (record { context = contextOf (isRef (a .refs .second)) (matchesOf near) (matchesOf all) (near .newmv) still; cands = clamped (reachOf (f .sizes) (siteOf t a)) s .cands; fill = globalOf a .first })
+  concludes : {s : State} → extraOf read (siteOf t a) (biasesOf f) (a .refs) (globalOf a) (ordered count all) ≡ answered.found s
+      → concluded read f t a still count matched newmv all
+      ≡ got (record { context = contextOf (isRef (a .refs .second)) matched (matchesOf all) newmv still; cands = clamped (reachOf (f .sizes) (siteOf t a)) s .cands; fill = globalOf a .first })
   unfolding concluded
   concludes e = rw e
 
@@ -119,7 +122,7 @@ module _ (read : ℕ → ℕ → Read) (cells : ℕ → CellRead) (f : Frame) (t
       goes-no-farther g = rw (e, g)
 
       pub goes-on : {v : State} {r c k : ℕ} → k ≡ zeroWhere (timed f) cells (aimOf f a) (fieldOf (f .sizes) t (siteOf t a)) (f .temporal)
-          → farAll read (siteOf t a) above left (wantOf a) u ≡ around.on v r c → concluded read f t a k s v ≡ goneOn read cells f t a s above left
+          → farAll read (siteOf t a) above left (wantOf a) u ≡ around.on v r c → concluded read f t a k (length (s .cands)) (matchesOf s) (s .newmv) v ≡ goneOn read cells f t a s above left
       unfolding goneOn
       goes-on h g = rw (h, e, g)
 
@@ -173,16 +176,31 @@ module _ (l tl : List ℕ) (a : Ask) {z : Sizes} {b : Site} {nf nt nr : ℕ} (ze
       let q = ap (λ (u : Site). u .col .end .0) be in
       (placed, omega (arith, h, y, v), omega (arith, w, x, q), omega (arith, s .high, y), omega (arith, s .wide, x))
 
--- the candidates are as many as the stack says
-many : (s : Found) → length (s .stack) ≡ 8 → s .count ≤ 8 → length (view s .cands) ≡ s .count
+-- the candidates are as many as the numbers say
+many : (l : List ℕ) → Held l → length (viewAt l .cands) ≡ countAt l
 unfolding view
-many s full few = live-length s full few
+many l h = live-length (foundAt l) (stack-long l) (h .room)
 
-pub sorts : (near all sorted : Found) {m : ℕ} → length (near .stack) ≡ 8 → near .count ≤ 8 → length (all .stack) ≡ 8 → all .count ≤ 8
-    → m ≡ min (near .count) (all .count) → view sorted ≡ ordered m (view all) → view sorted ≡ ordered (length (view near .cands)) (view all)
-sorts near all sorted fn n fa k e v =
-    v ∙ ap (λ (i : ℕ). ordered i (view all)) (e ∙ ap₂ min (sym (many near fn n)) (sym (many all fa k)))
-    ∙ ordered-min (length (view near .cands)) (view all)
+pub sorts : (n : ℕ) (l : List ℕ) (sorted : Found) {m k : ℕ} → Held l → k ≡ countAt l → m ≡ min n k
+    → view sorted ≡ ordered m (viewAt l) → view sorted ≡ ordered n (viewAt l)
+sorts n l sorted h j e v =
+    v ∙ ap (λ (i : ℕ). ordered i (viewAt l)) (e ∙ ap (min n) (j ∙ sym (many l h))) ∙ ordered-min n (viewAt l)
+
+-- what `take_nearest` gives
+abbrev nearestAt : List ℕ → Nearest
+nearestAt l = record { count = countAt l; matched = matchesOf (viewAt l); newmv = viewAt l .newmv }
+
+-- the end, from what was taken of the near neighbours
+pub taken : (read : ℕ → ℕ → Read) (f : Frame) (t : Tile) (a : Ask) (still : ℕ) (l : List ℕ) (all : State) {n : Nearest} → Held l → n ≡ nearestAt l
+    → concluded read f t a still (n .count) (n .matched) (n .newmv) all ≡ concluded read f t a still (length (viewAt l .cands)) (matchesOf (viewAt l)) (viewAt l .newmv) all
+taken read f t a still l all h e = rw (e, many l h)
+
+-- the room that the near neighbours leave for the projection's weights, and both for those of the far ones
+pub timed-light : {a b : ℕ} → b ≤ 1028 → a ≤ b + 5120 → Light 134 a
+timed-light h i = record { light = omega arith }
+
+pub far-light : {a b d : ℕ} → b ≤ 1028 → a ≤ b + 5120 → d ≤ a + 134 → around.Light d
+far-light h i j = record { light = omega arith }
 
 -- the extra search that the code asked for
 pub extra-asked : (l tl recs : List ℕ) (a : Ask) {total : ℕ} {z : Sizes} {b : Site} {g : MvPair} {s u : State} {o : answered.Outcome}
@@ -200,16 +218,16 @@ alike : {c d : ℕ} {k m : List Candidate} {v w : Mv} → c ≡ d → k ≡ m �
 alike p q r = rw (p, q, r)
 
 -- the end of an accepted search
-pub ends : (read : ℕ → ℕ → Read) (f : Frame) (t : Tile) (a : Ask) (still : ℕ) (near all last found : Found) {c : ℕ} {v : Mv} {r : Reach}
-    → extraOf read (siteOf t a) (biasesOf f) (a .refs) (globalOf a) (ordered (length (view near .cands)) (view all)) ≡ answered.found (view last)
+pub ends : (read : ℕ → ℕ → Read) (f : Frame) (t : Tile) (a : Ask) (still count matched : ℕ) (newmv : Bool) (all : State) (last found : Found) {c : ℕ} {v : Mv} {r : Reach}
+    → extraOf read (siteOf t a) (biasesOf f) (a .refs) (globalOf a) (ordered count all) ≡ answered.found (view last)
     → view found ≡ clamped r (view last) → r ≡ reachOf (f .sizes) (siteOf t a)
-    → c ≡ contextOf (isRef (a .refs .second)) (matchesOf (view near)) (matchesOf (view all)) (near .newmv) still → v ≡ globalOf a .first
-    → finding (record { answer = 0; context = c; found = found; fill = v }) ≡ concluded read f t a still (view near) (view all)
+    → c ≡ contextOf (isRef (a .refs .second)) matched (matchesOf all) newmv still → v ≡ globalOf a .first
+    → finding (record { answer = 0; context = c; fill = v }) found ≡ concluded read f t a still count matched newmv all
 unfolding view
-ends read f t a still near all last found e h k x y =
-    is-got (record { answer = 0; context = _; found = found; fill = _ }) refl
+ends read f t a still count matched newmv all last found e h k x y =
+    is-got (record { answer = 0; context = _; fill = _ }) found refl
     ∙ alike x (ap (λ (s : State). s .cands) h ∙ ap (λ (r : Reach). clamped r (view last) .cands) k) y
-    ∙ sym (concludes read f t a still (view near) (view all) e)
+    ∙ sym (concludes read f t a still count matched newmv all e)
 
 -- the front once passed
 pub past : {f : Frame} {t : Tile} {a : Ask} {nrecs nproj nf nt : ℕ} → Passed f t a nrecs nproj → 109 ≤ nf → 168 ≤ nt → Past f t a nf nt nrecs

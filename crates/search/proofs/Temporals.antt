@@ -16,15 +16,15 @@ use Rattle.ground.proofs.Belows.{at}
 use Rattle.ground.proofs.Picks.{both}
 use Rattle.ground.proofs.Signs.{from-is, from-to-most}
 use Rattle.cells.specs.declared.cell.Ref.{Ref}
-use Rattle.frame.specs.declared.sizes.Sizes.{Sizes}
-use Rattle.frame.specs.declared.distances.RefHint.{RefHint}
+use Rattle.extent.specs.declared.sizes.Sizes.{Sizes}
+use Rattle.hints.specs.declared.distances.RefHint.{RefHint}
 use Rattle.frame.specs.declared.record.Frame.{Frame}
-use Rattle.frame.specs.Distances.{wellHint}
+use Rattle.hints.specs.Distances.{wellHint}
 use Rattle.frame.specs.Mfmv.{noMfmv, wellMfmv}
 use Rattle.frame.specs.Record.{noHint, wellFrame}
-use Rattle.frame.specs.Sizes.{strideOf, wellSizes}
+use Rattle.extent.specs.Sizes.{strideOf, wellSizes}
 use Rattle.frame.proofs.Records.{frame-sizes}
-use Rattle.frame.proofs.Sizing.{fits, stride-most}
+use Rattle.extent.proofs.Sizing.{fits, stride-most}
 use Rattle.rows.specs.declared.setup.Tile.{Tile}
 use Rattle.layout.specs.FrameBytes.{sizesAt, frameAt}
 use Rattle.layout.specs.TileBytes.{tileAt}

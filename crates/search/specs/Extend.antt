@@ -9,7 +9,7 @@ use Rattle.cells.specs.declared.cell.Ref.{Ref}
 use Rattle.cells.specs.declared.block.MvPair.{MvPair}
 use Rattle.cells.specs.declared.block.RefPair.{RefPair}
 use Rattle.frame.specs.declared.record.Frame.{Frame}
-use Rattle.frame.specs.Distances.{seven}
+use Rattle.hints.specs.Distances.{seven}
 use Rattle.frame.specs.Record.{noHint}
 use Rattle.site.specs.declared.block.Site.{Site}
 use Rattle.site.specs.Site.{limitOf, depthOf}

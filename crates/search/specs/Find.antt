@@ -7,10 +7,10 @@ use lib.Dec.{eqb}
 use lib.ListN.{length}
 use Rattle.ground.specs.Pick.{pick}
 use Rattle.vector.specs.declared.mv.Mv.{Mv}
-use Rattle.frame.specs.declared.sizes.Sizes.{Sizes}
+use Rattle.extent.specs.declared.sizes.Sizes.{Sizes}
 use Rattle.frame.specs.declared.record.Frame.{Frame}
 use Rattle.frame.specs.Record.{wellFrame}
-use Rattle.frame.specs.Sizes.{records, projectedCells}
+use Rattle.extent.specs.Sizes.{records, projectedCells}
 use Rattle.rows.specs.declared.setup.Tile.{Tile}
 use Rattle.site.specs.declared.block.Site.{Site}
 use Rattle.site.specs.Site.{Placed}
@@ -20,7 +20,7 @@ use Rattle.around.specs.Around.{Went, nearAll, farAll}
 use Rattle.around.specs.Around as around
 use Rattle.stack.specs.declared.candidate.Candidate.{Candidate}
 use Rattle.stack.specs.declared.clamp.Reach.{Reach}
-use Rattle.stack.specs.Stack.{State, live, raised}
+use Rattle.stack.specs.Stack.{State, Found, live, raised}
 use Rattle.stack.specs.Sort.{ordered}
 use Rattle.stack.specs.Clamp.{clamped}
 use Rattle.stack.specs.Answered.{Outcome}
@@ -45,9 +45,9 @@ pub data Result : Type 0 where
   refused : ℕ → Result
   got : Finding → Result
 
-unfoldable pub finding : Findings → Result
-finding r =
-    pick (eqb (r .answer) 0) (got (record { context = r .context; cands = live (r .found); fill = r .fill })) (refused (r .answer))
+-- on a refusal nothing is said of the rest
+unfoldable pub finding : Findings → Found → Result
+finding r s = pick (eqb (r .answer) 0) (got (record { context = r .context; cands = live s; fill = r .fill })) (refused (r .answer))
 
 -- a part of the search that is refused refuses all of it
 abbrev pub afterWent : Went → (State → ℕ → ℕ → Result) → Result
@@ -68,13 +68,14 @@ reachOf z b =
       right = 32 * (z .iw4 .0 - b .x .0 + 4);
     }
 
--- Sorting, the extra search, context and clamping. `near` is what the near neighbours found, `all` what all of them did, `still` the zero-motion context.
-unfoldable pub concluded : (ℕ → ℕ → Read) → Frame → Tile → Ask → ℕ → (near all : State) → Result
-concluded read f t a still near all =
-    afterFound (extraOf read (siteOf t a) (biasesOf f) (a .refs) (globalOf a) (ordered (length (near .cands)) all)) (λ s.
+-- Sorting, the extra search, context and clamping. Of the near neighbours: how many candidates they gave, on how many sides they matched, and whether one of
+-- their modes has a new vector; `all` is what all of them found, `still` the zero-motion context.
+unfoldable pub concluded : (ℕ → ℕ → Read) → Frame → Tile → Ask → (still count matched : ℕ) → Bool → State → Result
+concluded read f t a still count matched newmv all =
+    afterFound (extraOf read (siteOf t a) (biasesOf f) (a .refs) (globalOf a) (ordered count all)) (λ s.
     got
     (record {
-      context = contextOf (isRef (a .refs .second)) (matchesOf near) (matchesOf all) (near .newmv) still;
+      context = contextOf (isRef (a .refs .second)) matched (matchesOf all) newmv still;
       cands = clamped (reachOf (f .sizes) (siteOf t a)) s .cands;
       fill = globalOf a .first;
     }))
@@ -87,7 +88,7 @@ unfoldable pub goneOn : (ℕ → ℕ → Read) → (ℕ → CellRead) → Frame 
 goneOn read cells f t a s above left =
     afterFound (temporalWhere (timed f) cells (aimOf f a) (fieldOf (f .sizes) t (siteOf t a)) (siteOf t a) (raised s)) (λ u.
     afterWent (farAll read (siteOf t a) above left (wantOf a) u) (λ v r c.
-    concluded read f t a (zeroWhere (timed f) cells (aimOf f a) (fieldOf (f .sizes) t (siteOf t a)) (f .temporal)) s v))
+    concluded read f t a (zeroWhere (timed f) cells (aimOf f a) (fieldOf (f .sizes) t (siteOf t a)) (f .temporal)) (length (s .cands)) (matchesOf s) (s .newmv) v))
 
 unfoldable pub searchOf : (ℕ → ℕ → Read) → (ℕ → CellRead) → Frame → Tile → Ask → Result
 searchOf read cells f t a =

@@ -8,10 +8,10 @@ use lib.ListN.{getD}
 use Rattle.ground.specs.Pick.{pick}
 use Rattle.vector.specs.Vector.{Within}
 use Rattle.cells.specs.declared.cell.Ref.{Ref}
-use Rattle.frame.specs.declared.sizes.Sizes.{Sizes}
+use Rattle.extent.specs.declared.sizes.Sizes.{Sizes}
 use Rattle.frame.specs.declared.record.Frame.{Frame}
 use Rattle.frame.specs.Record.{noHint}
-use Rattle.frame.specs.Sizes.{projectedCells}
+use Rattle.extent.specs.Sizes.{projectedCells}
 use Rattle.rows.specs.declared.setup.Tile.{Tile}
 use Rattle.site.specs.declared.block.Site.{Site}
 use Rattle.site.specs.Site.{Placed}

@@ -15,8 +15,7 @@ use extra::walk::single_along;
 use layout::frame_bytes::hint_in;
 use rows::setup::lesser;
 use site::block::Site;
-use stack::candidate::Answered;
-use stack::candidate::Found;
+use stack::numbers::count_in;
 ghost use mathlib.Core.Path.{_≡_};
 ghost use mathlib.Core.Bool.{true};
 ghost use Prim.Native.Nat.{_≤_, _<_};
@@ -29,7 +28,7 @@ ghost use Rattle.layout.specs.FrameBytes.{frameAt};
 ghost use Rattle.layout.specs.TileBytes.{tileAt};
 ghost use Rattle.neighbours.specs.Neighbour.{readAt};
 ghost use Rattle.site.specs.Site.{Placed};
-ghost use Rattle.stack.specs.Stack.{view};
+ghost use Rattle.stack.specs.Numbers.{foundAt, viewAt, countAt, Held};
 ghost use Rattle.stack.specs.Answered.{outcome};
 ghost use Rattle.search.specs.Extend.{biasAt, biasesOf, extraLimit, singleWhere, singleExtra, compoundWhere, compoundExtra, extraOf};
 
@@ -73,17 +72,14 @@ fn single_where(
     down: bool,
     biases: &[u8],
     r: Ref,
-    s: Found,
-) -> Answered
-    requires { ⌜ Lent (length (now tile)) (length (now recs)) total × Placed b × (length (now biases) ≡ 7) × (isRef r ≡ true) × (s .count ≤ 3) ⌝ }
-    ensures { λ a. ⌜ a .found .count ≤ 3 ⌝ }
-    ensures { λ a. ⌜ outcome a ≡ singleWhere (readAt (tileAt (now (tile .entry)) .rows) (now (recs .entry)) total) b down (now (biases .entry)) r (view s) ⌝ }
+    s: &mut [u64],
+) -> u8
+    requires { ⌜ Lent (length (now tile)) (length (now recs)) total × Placed b × (length (now biases) ≡ 7) × (isRef r ≡ true) × Held (now s) × (countAt (now s) ≤ 3) ⌝ }
+    ensures { λ a. ⌜ Held (now (s .exit)) × (countAt (now (s .exit)) ≤ 3) ⌝ }
+    ensures { λ a. ⌜ outcome a (foundAt (now (s .exit))) ≡ singleWhere (readAt (tileAt (now (tile .entry)) .rows) (now (recs .entry)) total) b down (now (biases .entry)) r (viewAt (now (s .entry))) ⌝ }
 {
     if b.depth(down) == 0 {
-        return Answered {
-            found: s,
-            answer: 0,
-        };
+        return 0;
     }
     let limit = extra_limit(b);
     single_along(tile, recs, total, near_line(b, down), limit, biases, r, s)
@@ -97,17 +93,17 @@ fn single_extra(
     b: Site,
     biases: &[u8],
     r: Ref,
-    s: Found,
-) -> Answered
-    requires { ⌜ Lent (length (now tile)) (length (now recs)) total × Placed b × (length (now biases) ≡ 7) × (isRef r ≡ true) × (s .count < 2) ⌝ }
-    ensures { λ a. ⌜ a .found .count ≤ 3 ⌝ }
-    ensures { λ a. ⌜ outcome a ≡ singleExtra (readAt (tileAt (now (tile .entry)) .rows) (now (recs .entry)) total) b (now (biases .entry)) r (view s) ⌝ }
+    s: &mut [u64],
+) -> u8
+    requires { ⌜ Lent (length (now tile)) (length (now recs)) total × Placed b × (length (now biases) ≡ 7) × (isRef r ≡ true) × Held (now s) × (countAt (now s) < 2) ⌝ }
+    ensures { λ a. ⌜ Held (now (s .exit)) × (countAt (now (s .exit)) ≤ 3) ⌝ }
+    ensures { λ a. ⌜ outcome a (foundAt (now (s .exit))) ≡ singleExtra (readAt (tileAt (now (tile .entry)) .rows) (now (recs .entry)) total) b (now (biases .entry)) r (viewAt (now (s .entry))) ⌝ }
 {
     let above = single_where(tile, recs, total, b, false, biases, r, s);
-    if above.answer != 0 {
+    if above != 0 {
         return above;
     }
-    single_where(tile, recs, total, b, true, biases, r, above.found)
+    single_where(tile, recs, total, b, true, biases, r, s)
 }
 
 fn compound_where(
@@ -151,31 +147,25 @@ fn compound_extra(
     biases: &[u8],
     refs: RefPair,
     g: MvPair,
-    s: Found,
-) -> Answered
-    requires { ⌜ Lent (length (now tile)) (length (now recs)) total × Placed b × (length (now biases) ≡ 7) × (isRef (refs .first) ≡ true) × (isRef (refs .second) ≡ true) × (s .count < 2) ⌝ }
-    ensures { λ a. ⌜ a .found .count ≤ 3 ⌝ }
-    ensures { λ a. ⌜ outcome a ≡ compoundExtra (readAt (tileAt (now (tile .entry)) .rows) (now (recs .entry)) total) b (now (biases .entry)) refs g (view s) ⌝ }
+    s: &mut [u64],
+) -> u8
+    requires { ⌜ Lent (length (now tile)) (length (now recs)) total × Placed b × (length (now biases) ≡ 7) × (isRef (refs .first) ≡ true) × (isRef (refs .second) ≡ true) × Held (now s) × (countAt (now s) < 2) ⌝ }
+    ensures { λ a. ⌜ Held (now (s .exit)) × (countAt (now (s .exit)) ≤ 3) ⌝ }
+    ensures { λ a. ⌜ outcome a (foundAt (now (s .exit))) ≡ compoundExtra (readAt (tileAt (now (tile .entry)) .rows) (now (recs .entry)) total) b (now (biases .entry)) refs g (viewAt (now (s .entry))) ⌝ }
 {
     let above = compound_where(tile, recs, total, b, false, biases, refs, no_pools());
     if above.answer != 0 {
-        return Answered {
-            found: s,
-            answer: above.answer,
-        };
+        return above.answer;
     }
     let both = compound_where(tile, recs, total, b, true, biases, refs, above.pools);
     if both.answer != 0 {
-        return Answered {
-            found: s,
-            answer: both.answer,
-        };
+        return both.answer;
     }
     let pools = both.pools;
     let first = first_pair(pools, g);
     let second = second_pair(pools, g);
-    let found = complete(s, first, second);
-    Answered { found, answer: 0 }
+    complete(s, first, second);
+    0
 }
 
 // Only with fewer than two candidates; for INTRA there is none.
@@ -187,21 +177,17 @@ pub(crate) fn extend(
     b: Site,
     refs: RefPair,
     g: MvPair,
-    s: Found,
-) -> Answered
-    requires { ⌜ Lent (length (now tile)) (length (now recs)) total × Placed b × (109 ≤ length (now frame)) × (s .count ≤ 8) ⌝ }
-    ensures { λ a. ⌜ a .found .count ≤ 8 ⌝ }
-    ensures { λ a. ⌜ outcome a ≡ extraOf (readAt (tileAt (now (tile .entry)) .rows) (now (recs .entry)) total) b (biasesOf (frameAt (now (frame .entry)))) refs g (view s) ⌝ }
+    s: &mut [u64],
+) -> u8
+    requires { ⌜ Lent (length (now tile)) (length (now recs)) total × Placed b × (109 ≤ length (now frame)) × Held (now s) ⌝ }
+    ensures { λ a. ⌜ Held (now (s .exit)) ⌝ }
+    ensures { λ a. ⌜ outcome a (foundAt (now (s .exit))) ≡ extraOf (readAt (tileAt (now (tile .entry)) .rows) (now (recs .entry)) total) b (biasesOf (frameAt (now (frame .entry)))) refs g (viewAt (now (s .entry))) ⌝ }
 {
-    let none = Answered {
-        found: s,
-        answer: 0,
-    };
-    if 2 <= s.count {
-        return none;
+    if 2 <= count_in(s) {
+        return 0;
     }
     if !is_ref(refs.first) {
-        return none;
+        return 0;
     }
     let biases = biases_of(frame);
     if is_ref(refs.second) {

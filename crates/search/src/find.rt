@@ -7,8 +7,8 @@ use crate::parts::zero_where;
 use around::far::far;
 use around::near::Around;
 use around::near::near;
+use extent::sizes::Sizes;
 use extra::lists::is_ref;
-use frame::sizes::Sizes;
 use front::ask::Ask;
 use front::ask::admit;
 use front::ask::global_of;
@@ -20,45 +20,52 @@ use layout::frame_bytes::sizes_at;
 use rows::setup::lesser;
 use site::block::Site;
 use stack::add::raise;
-use stack::candidate::Found;
-use stack::candidate::nothing_found;
 use stack::clamp::Reach;
 use stack::clamp::clamp;
+use stack::numbers::Flag;
+use stack::numbers::count_in;
+use stack::numbers::flag_in;
 use stack::sort::sort_parts;
 use vector::mv::Mv;
 ghost use mathlib.Core.Path.{_≡_};
 ghost use mathlib.Core.Bool.{true};
 ghost use Prim.Native.Nat.{_≤_};
 ghost use lib.ListN.{length};
-ghost use Rattle.frame.specs.Sizes.{records, projectedCells};
+ghost use Rattle.extent.specs.Sizes.{records, projectedCells};
 ghost use Rattle.layout.specs.FrameBytes.{frameAt};
 ghost use Rattle.layout.specs.TileBytes.{tileAt};
 ghost use Rattle.neighbours.specs.Neighbour.{readAt};
 ghost use Rattle.site.specs.Site.{Placed};
-ghost use Rattle.stack.specs.Stack.{live, view, heft};
+ghost use Rattle.stack.specs.Numbers.{foundAt, viewAt, heftAt, countAt, Held};
 ghost use Rattle.temporal.specs.Temporal.{cellRead};
 ghost use Rattle.front.specs.Ask.{findFront};
-ghost use Rattle.search.specs.Find.{refused, finding, reachOf, concluded, goneOn, findOf, Past};
+ghost use Rattle.front.specs.Context.{matchesOf};
+ghost use Rattle.search.specs.Find.{finding, reachOf, concluded, goneOn, findOf, Past};
 
-// answer is 0, or a refusal, and then nothing is meant by the others. fill stands for the slots below
+// answer is 0, or a refusal, and then nothing is meant by the others, nor by what was found. fill stands for the slots below
 // two that a single search leaves empty.
 pub struct Findings {
     pub answer: u8,
     pub context: u8,
-    pub found: Found,
     pub fill: Mv,
+}
+
+// How many candidates the near neighbours gave, on how many sides they matched, and whether one of
+// their modes has a new vector.
+struct Nearest {
+    count: usize,
+    matched: u8,
+    newmv: bool,
 }
 
 fn refuse(answer: u8) -> Findings
     requires { ⌜ 1 ≤ answer ⌝ }
-    ensures { λ r. ⌜ (r .found .count ≤ 8) × (finding r ≡ refused answer) ⌝ }
+    ensures { λ r. ⌜ (r .answer ≡ answer) ⌝ }
 {
-    let found = nothing_found();
     let fill = Mv::ZERO;
     Findings {
         answer,
         context: 0,
-        found,
         fill,
     }
 }
@@ -78,52 +85,65 @@ fn reach_of(z: Sizes, b: Site) -> Reach
     }
 }
 
-// What the near neighbours and all of them found, sorted, filled up by the extra search and clamped.
+fn take_nearest(s: &[u64]) -> Nearest
+    requires { ⌜ length (now s) ≡ 20 ⌝ }
+    ensures { λ n. ⌜ (n ≡ record { count = countAt (now (s .entry)); matched = matchesOf (viewAt (now (s .entry))); newmv = viewAt (now (s .entry)) .newmv }) × (n .matched ≤ 2) ⌝ }
+{
+    Nearest {
+        count: count_in(s),
+        matched: matches(s),
+        newmv: flag_in(s, Flag::NewMv),
+    }
+}
+
+// What all neighbours found, sorted, filled up by the extra search and clamped.
 fn conclude(
     frame: &[u8],
     tile: &[u8],
     recs: &[u8],
     a: Ask,
     zero: u8,
-    near: Found,
-    all: Found,
+    near: Nearest,
+    s: &mut [u64],
 ) -> Findings
-    requires { ⌜ Past (frameAt (now frame)) (tileAt (now tile)) a (length (now frame)) (length (now tile)) (length (now recs)) × (zero ≤ 1) × (near .count ≤ 8) × (all .count ≤ 8) ⌝ }
-    ensures { λ r. ⌜ r .found .count ≤ 8 ⌝ }
-    ensures { λ r. ⌜ finding r ≡ concluded (readAt (tileAt (now (tile .entry)) .rows) (now (recs .entry)) (records (frameAt (now (frame .entry)) .sizes))) (frameAt (now (frame .entry))) (tileAt (now (tile .entry))) a zero (view near) (view all) ⌝ }
+    requires { ⌜ Past (frameAt (now frame)) (tileAt (now tile)) a (length (now frame)) (length (now tile)) (length (now recs)) × (zero ≤ 1) × (near .matched ≤ 2) × Held (now s) ⌝ }
+    ensures { λ _. ⌜ Held (now (s .exit)) ⌝ }
+    ensures { λ r. ⌜ finding r (foundAt (now (s .exit))) ≡ concluded (readAt (tileAt (now (tile .entry)) .rows) (now (recs .entry)) (records (frameAt (now (frame .entry)) .sizes))) (frameAt (now (frame .entry))) (tileAt (now (tile .entry))) a zero (near .count) (near .matched) (near .newmv) (viewAt (now (s .entry))) ⌝ }
 {
     let z = sizes_at(frame);
     let b = site_of(tile, a);
     let refs = a.refs;
     let global = global_of(a);
+    let matched = matches(s);
     // The stack only grows: the near candidates are no more than all of them.
-    let sorted = sort_parts(all, lesser(near.count, all.count));
-    let last = extend(frame, tile, recs, z.records(), b, refs, global, sorted);
-    if last.answer != 0 {
-        return refuse(last.answer);
+    sort_parts(s, lesser(near.count, count_in(s)));
+    let last = extend(frame, tile, recs, z.records(), b, refs, global, s);
+    if last != 0 {
+        return refuse(last);
     }
-    let context = context_of(
-        is_ref(refs.second),
-        matches(near),
-        matches(all),
-        near.newmv,
-        zero,
-    );
-    let found = clamp(last.found, reach_of(z, b));
+    clamp(s, reach_of(z, b));
+    let context = context_of(is_ref(refs.second), near.matched, matched, near.newmv, zero);
     let fill = global.first;
     Findings {
         answer: 0,
         context,
-        found,
         fill,
     }
 }
 
 // From the near neighbours on: the projection, then what lies farther off.
-fn go_on(frame: &[u8], tile: &[u8], recs: &[u8], proj: &[u8], a: Ask, n: Around) -> Findings
-    requires { ⌜ (findFront (frameAt (now frame)) (tileAt (now tile)) a (length (now recs)) (length (now proj)) ≡ 0) × (109 ≤ length (now frame)) × (168 ≤ length (now tile)) × (n .answer ≡ 0) × (n .found .count ≤ 8) × (heft (live (n .found)) ≤ 1028) × (n .above ≤ 16) × (n .left ≤ 16) ⌝ }
-    ensures { λ r. ⌜ r .found .count ≤ 8 ⌝ }
-    ensures { λ r. ⌜ finding r ≡ goneOn (readAt (tileAt (now (tile .entry)) .rows) (now (recs .entry)) (records (frameAt (now (frame .entry)) .sizes))) (cellRead (now (proj .entry)) (projectedCells (frameAt (now (frame .entry)) .sizes))) (frameAt (now (frame .entry))) (tileAt (now (tile .entry))) a (view (n .found)) (n .above) (n .left) ⌝ }
+fn go_on(
+    frame: &[u8],
+    tile: &[u8],
+    recs: &[u8],
+    proj: &[u8],
+    a: Ask,
+    n: Around,
+    s: &mut [u64],
+) -> Findings
+    requires { ⌜ (findFront (frameAt (now frame)) (tileAt (now tile)) a (length (now recs)) (length (now proj)) ≡ 0) × (109 ≤ length (now frame)) × (168 ≤ length (now tile)) × (n .answer ≡ 0) × Held (now s) × (heftAt (now s) ≤ 1028) × (n .above ≤ 16) × (n .left ≤ 16) ⌝ }
+    ensures { λ _. ⌜ Held (now (s .exit)) ⌝ }
+    ensures { λ r. ⌜ finding r (foundAt (now (s .exit))) ≡ goneOn (readAt (tileAt (now (tile .entry)) .rows) (now (recs .entry)) (records (frameAt (now (frame .entry)) .sizes))) (cellRead (now (proj .entry)) (projectedCells (frameAt (now (frame .entry)) .sizes))) (frameAt (now (frame .entry))) (tileAt (now (tile .entry))) a (viewAt (now (s .entry))) (n .above) (n .left) ⌝ }
 {
     let z = sizes_at(frame);
     let b = site_of(tile, a);
@@ -131,34 +151,25 @@ fn go_on(frame: &[u8], tile: &[u8], recs: &[u8], proj: &[u8], a: Ask, n: Around)
     let header = frame[49];
     let aim = aim_of(frame, a);
     let f = field_of(z, tile, b);
-    let first = n.found;
-    let raised = raise(first);
-    let timed = temporal_where(on, proj, f, b, aim, raised);
-    if timed.answer != 0 {
-        return refuse(timed.answer);
+    let first = take_nearest(s);
+    raise(s);
+    let timed = temporal_where(on, proj, f, b, aim, s);
+    if timed != 0 {
+        return refuse(timed);
     }
-    let all = far(
-        tile,
-        recs,
-        z.records(),
-        b,
-        n.above,
-        n.left,
-        want_of(a),
-        timed.found,
-    );
+    let all = far(tile, recs, z.records(), b, n.above, n.left, want_of(a), s);
     if all.answer != 0 {
         return refuse(all.answer);
     }
     let zero = zero_where(on, proj, f, b, aim, header);
-    conclude(frame, tile, recs, a, zero, first, all.found)
+    conclude(frame, tile, recs, a, zero, first, s)
 }
 
 // A search on the bytes of a frame record and of a tile, where they stand.
-pub fn find(frame: &[u8], tile: &[u8], recs: &[u8], proj: &[u8], a: Ask) -> Findings
-    requires { ⌜ (109 ≤ length (now frame)) × (168 ≤ length (now tile)) ⌝ }
-    ensures { λ r. ⌜ r .found .count ≤ 8 ⌝ }
-    ensures { λ r. ⌜ finding r ≡ findOf (frameAt (now (frame .entry))) (tileAt (now (tile .entry))) (now (recs .entry)) (now (proj .entry)) a ⌝ }
+pub fn find(frame: &[u8], tile: &[u8], recs: &[u8], proj: &[u8], a: Ask, s: &mut [u64]) -> Findings
+    requires { ⌜ (109 ≤ length (now frame)) × (168 ≤ length (now tile)) × (length (now s) ≡ 20) ⌝ }
+    ensures { λ r. ⌜ ((r .answer ≡ 0) → Held (now (s .exit))) ⌝ }
+    ensures { λ r. ⌜ finding r (foundAt (now (s .exit))) ≡ findOf (frameAt (now (frame .entry))) (tileAt (now (tile .entry))) (now (recs .entry)) (now (proj .entry)) a ⌝ }
 {
     let front = admit(frame, tile, a, recs.len(), proj.len());
     if front != 0 {
@@ -166,9 +177,9 @@ pub fn find(frame: &[u8], tile: &[u8], recs: &[u8], proj: &[u8], a: Ask) -> Find
     }
     let z = sizes_at(frame);
     let b = site_of(tile, a);
-    let n = near(tile, recs, z.records(), b, a.decoded == 1, want_of(a));
+    let n = near(tile, recs, z.records(), b, a.decoded == 1, want_of(a), s);
     if n.answer != 0 {
         return refuse(n.answer);
     }
-    go_on(frame, tile, recs, proj, a, n)
+    go_on(frame, tile, recs, proj, a, n, s)
 }

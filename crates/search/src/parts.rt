@@ -1,14 +1,12 @@
 // The temporal part of a search: the block's place in the projection, and where its cells are aimed.
 use cells::cell::Ref;
+use extent::sizes::Sizes;
 use extra::lists::is_ref;
-use frame::sizes::Sizes;
 use front::ask::Ask;
 use front::ask::global_of;
 use layout::frame_bytes::hint_in;
 use layout::tile_bytes::proj_in;
 use site::block::Site;
-use stack::candidate::Answered;
-use stack::candidate::Found;
 use temporal::aim::Aim;
 use temporal::aim::zero_context;
 use temporal::sweep::Field;
@@ -17,11 +15,11 @@ ghost use mathlib.Core.Path.{_≡_};
 ghost use mathlib.Core.Bool.{true};
 ghost use Prim.Native.Nat.{_+_, _≤_};
 ghost use lib.ListN.{length};
-ghost use Rattle.frame.specs.Sizes.{wellSizes};
+ghost use Rattle.extent.specs.Sizes.{wellSizes};
 ghost use Rattle.layout.specs.FrameBytes.{frameAt};
 ghost use Rattle.layout.specs.TileBytes.{tileAt};
 ghost use Rattle.site.specs.Site.{Placed};
-ghost use Rattle.stack.specs.Stack.{live, view, heft};
+ghost use Rattle.stack.specs.Numbers.{foundAt, viewAt, heftAt, Held};
 ghost use Rattle.stack.specs.Answered.{outcome};
 ghost use Rattle.temporal.specs.Temporal.{cellRead};
 ghost use Rattle.temporal.specs.Sweep.{Light};
@@ -69,18 +67,15 @@ pub(crate) fn field_of(z: Sizes, tile: &[u8], b: Site) -> Field
 }
 
 // Nothing where temporal search is off.
-pub(crate) fn temporal_where(on: bool, proj: &[u8], f: Field, b: Site, a: Aim, s: Found) -> Answered
-    requires { ⌜ TemporalRoom on (length (now proj)) f b a × Light 134 (s .count) (heft (live s)) ⌝ }
-    ensures { λ r. ⌜ (r .found .count ≤ 8) × (heft (live (r .found)) ≤ heft (live s) + 134) ⌝ }
-    ensures { λ r. ⌜ outcome r ≡ temporalWhere on (cellRead (now (proj .entry)) (f .total)) a f b (view s) ⌝ }
+pub(crate) fn temporal_where(on: bool, proj: &[u8], f: Field, b: Site, a: Aim, s: &mut [u64]) -> u8
+    requires { ⌜ TemporalRoom on (length (now proj)) f b a × Held (now s) × Light 134 (heftAt (now s)) ⌝ }
+    ensures { λ r. ⌜ Held (now (s .exit)) × (heftAt (now (s .exit)) ≤ heftAt (now (s .entry)) + 134) ⌝ }
+    ensures { λ r. ⌜ outcome r (foundAt (now (s .exit))) ≡ temporalWhere on (cellRead (now (proj .entry)) (f .total)) a f b (viewAt (now (s .entry))) ⌝ }
 {
     if on {
         return sweep_all(proj, f, b, a, s);
     }
-    Answered {
-        found: s,
-        answer: 0,
-    }
+    0
 }
 
 // The zero-motion context: the header's flag, unless a first cell that isn't absent decides.

@@ -1,43 +1,50 @@
--- What `note` and `add_spatial` make of a state.
+-- What the notes and `add_spatial` make of what was found.
 -- Assumes nothing.
-use mathlib.Core.Path.{_≡_, refl}
-use mathlib.Core.Bool.{Bool, true, false, _||_, or-true, or-false}
-use Prim.Native.Nat.{ℕ, _≤_, _<_}
-use borrow.Author.Tests.{le-leb, lt-leb}
+use mathlib.Core.Path.{_≡_, refl, ap, _∙_}
+use mathlib.Core.Bool.{Bool, true, false, _||_, not, or-true, or-false}
+use mathlib.Core.List.{List}
+use Prim.Native.Nat.{ℕ}
+use lib.ListN.{length}
+use Rattle.ground.specs.Pick.{pick}
 use Rattle.cells.specs.declared.block.Block.{Block}
 use Rattle.cells.specs.declared.block.MvPair.{MvPair}
-use Rattle.stack.specs.Stack.{State, live, view, joined}
-use Rattle.stack.specs.declared.candidate.Found.{Found}
+use Rattle.stack.specs.Stack.{State, Found, live, view, heft, joined}
+use Rattle.stack.specs.Numbers.{flagged, foundAt, viewAt, heftAt, Held}
+use Rattle.stack.specs.declared.numbers.Flag.the-variants.{NewMv}
 use Rattle.neighbours.specs.declared.want.Want.{Want}
 use Rattle.neighbours.specs.declared.want.Offer.{Offer}
 use Rattle.neighbours.specs.declared.want.Offer.the-variants.{Nothing, Pair}
 use Rattle.neighbours.specs.Want.{offerOf}
-use Rattle.spatial.specs.Take.{newMode, noted, spatial}
+use Rattle.spatial.specs.Take.{newMode, noted, spatial, modeFlag, sideFlag}
 
--- what was found, with another word on new vectors
-abbrev pub told : Found → Bool → Found
-told s b = record { stack = s .stack; count = s .count; newmv = b; above = s .above; left = s .left }
+-- both flags, one after the other: the candidates stay
+flags : (down : Bool) (mf : ℕ) (s : Found)
+    → (sideFlag down (modeFlag mf s) .count ≡ s .count) × (view (sideFlag down (modeFlag mf s)) ≡ noted down mf (view s))
+    × (live (sideFlag down (modeFlag mf s)) ≡ live s)
+unfolding view live noted
+flags down mf s = by down (newMode mf)
+  where
+    after : Bool → Bool → Found
+    after d n = sideFlag d (pick n (flagged NewMv s) s)
 
--- both arms of the first test
-pub new : (s : Found) (mf : ℕ) {t : Found} → 2 ≤ mf → t ≡ told s true → t ≡ told s (s .newmv || newMode mf)
-new s mf h e = rw (le-leb 2 mf h, or-true (s .newmv)) e
+    told : Bool → Bool → State
+    told d n = record { cands = live s; newmv = s .newmv || n; above = s .above || not d; left = s .left || d }
 
-pub old : (s : Found) (mf : ℕ) {t : Found} → mf < 2 → t ≡ s → t ≡ told s (s .newmv || newMode mf)
-old s mf h e = rw (lt-leb 2 mf h, or-false (s .newmv)) e
+    by : (d n : Bool) → (after d n .count ≡ s .count) × (view (after d n) ≡ told d n) × (live (after d n) ≡ live s)
+    by true true = rw (or-true (s .newmv), or-false (s .above), or-true (s .left)) (refl, refl, refl)
+    by true false = rw (or-false (s .newmv), or-false (s .above), or-true (s .left)) (refl, refl, refl)
+    by false true = rw (or-true (s .newmv), or-true (s .above), or-false (s .left)) (refl, refl, refl)
+    by false false = rw (or-false (s .newmv), or-true (s .above), or-false (s .left)) (refl, refl, refl)
 
--- and of the second
-abbrev pub Noted : Found → Bool → ℕ → Found → Type 0
-Noted s down mf r = (r .count ≡ s .count) × (view r ≡ noted down mf (view s)) × (live r ≡ live s)
+-- the same in the lent numbers, of which there are as many as before
+pub notes : (down : Bool) (mf : ℕ) (k l m : List ℕ) → Held k → foundAt l ≡ modeFlag mf (foundAt k) → foundAt m ≡ sideFlag down (foundAt l)
+    → length m ≡ length k → Held m × (viewAt m ≡ noted down mf (viewAt k)) × (heftAt m ≡ heftAt k)
+notes down mf k l m h e d n =
+    let f : foundAt m ≡ sideFlag down (modeFlag mf (foundAt k)) = d ∙ ap (sideFlag down) e in
+    let t = flags down mf (foundAt k) in
+    (record { size = n ∙ h .size; room = rw (f, t .0) (h .room) }, ap view f ∙ t .1, ap (λ (s : Found). heft (live s)) f ∙ ap heft (t .2))
 
-module _ (s : Found) (mf : ℕ) {t : Found} (e : t ≡ told s (s .newmv || newMode mf)) where
-  pub on-left : Noted s true mf (record { stack = t .stack; count = t .count; newmv = t .newmv; above = t .above; left = true })
-  unfolding view live noted
-  on-left = rw (e, or-true (s .left), or-false (s .above)) (refl, refl, refl)
-
-  pub on-top : Noted s false mf (record { stack = t .stack; count = t .count; newmv = t .newmv; above = true; left = t .left })
-  unfolding view live noted
-  on-top = rw (e, or-true (s .above), or-false (s .left)) (refl, refl, refl)
-
+-- the two cases of an offer
 module _ (down : Bool) (w : ℕ) (k : Block) (q : Want) (s : State) {o : Offer} (e : o ≡ offerOf k q) where
   pub none : o ≡ Nothing → s ≡ spatial down w k q s
   unfolding spatial

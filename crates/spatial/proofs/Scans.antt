@@ -1,7 +1,7 @@
 -- What the definitions of a scan say, for the proofs of its functions.
 -- Assumes nothing.
 use mathlib.Core.Path.{_≡_, refl, sym, _∙_, subst}
-use mathlib.Core.Bool.{Bool, true, false}
+use mathlib.Core.Bool.{Bool, true, false, not}
 use mathlib.Core.List.{List}
 use Prim.Native.Nat.{ℕ, zero, suc, _+_, _*_, _≤_, _<_, max, min}
 use native.Mathlib.Nat.{lt-irrefl, mul-le-mul}
@@ -9,15 +9,15 @@ use native.Mathlib.Omega.{arith}
 use lib.Dec.{eqb, ltb, lit≤}
 use borrow.Author.Tests.{lt-ltb, le-ltb, ne-eqb}
 use Rattle.ground.specs.Pick.{pick}
-use Rattle.stack.specs.Stack.{State}
+use Rattle.stack.specs.Stack.{State, Found}
 use Rattle.layout.specs.TileBytes.{tileAt}
 use Rattle.neighbours.specs.declared.read.Neighbour.{Neighbour}
 use Rattle.neighbours.specs.declared.read.Line.{Line}
 use Rattle.neighbours.specs.declared.read.Read.{Read}
 use Rattle.neighbours.specs.declared.read.Read.the-variants as read-as
 use Rattle.neighbours.specs.declared.want.Want.{Want}
-use Rattle.neighbours.specs.Neighbour.{alongOf, acrossOf, readAt, lineAt}
-use Rattle.neighbours.proofs.Known.{Known, Told, is-some}
+use Rattle.neighbours.specs.Neighbour.{alongOf, readAt, lineAt}
+use Rattle.neighbours.proofs.Known.{Known, Told, is-some, some-side, across-is}
 use Rattle.spatial.specs.declared.scan.Span.{Span}
 use Rattle.spatial.specs.declared.scan.Scan.{Scan}
 use Rattle.spatial.specs.declared.scan.Next.{Next}
@@ -31,11 +31,9 @@ line tile recs total l = lineAt (readAt (tileAt tile .rows) recs total) l
 
 -- a neighbour that was read has sides of 1 to 32 units
 pub sides : (down : Bool) (k : Neighbour) → Known k → Sized down k
-unfolding alongOf acrossOf
-sides true k n =
-    record { some = n .sides .some-h; most = n .sides .few-h; wide = n .sides .few-w }
-sides false k n =
-    record { some = n .sides .some-w; most = n .sides .few-w; wide = n .sides .few-h }
+sides down k n =
+    let a = some-side down k n in
+    record { some = a .0; most = a .1; wide = rw (across-is down k) (some-side (not down) k n .1) }
 
 -- what a later neighbour counts for, and the number of a refusal
 abbrev Steps : Next → Type 0
@@ -83,7 +81,7 @@ module _ {nb : ℕ → Read} {down : Bool} {q : Want} {p : Span} {o : Outcome} {
     pub ends : p .limit ≤ x → o ≡ found s 1
     ends h = g .same ∙ at-end nb down q p x s (g .left) h
 
-    module _ {count heft : ℕ} (f : Fair count heft p) {r : Next} (a : r ≡ nextOf nb down p x) where
+    module _ {heft : ℕ} (f : Fair heft p) {r : Next} (a : r ≡ nextOf nb down p x) where
       steps : Steps r
       unfolding nextOf
       steps = rw a (steps-read down p (f .one) (f .few) (nb x) (g .told x))
@@ -112,9 +110,17 @@ module _ {nb : ℕ → Read} {down : Bool} {q : Want} {p : Span} {o : Outcome} {
               record { told = g .told; left = n; enough = omega arith; same = e ∙ at-next nb down q p x s n h (sym a ∙ b) }
 
 -- an answer that is not 0 is the refusal of a scan, whatever was found
-pub not-found : (r : Scan) → 1 ≤ r .answer → outcome r ≡ refused (r .answer)
+pub not-found : (r : Scan) (s : Found) → 1 ≤ r .answer → outcome r s ≡ refused (r .answer)
 unfolding outcome
-not-found r h = rw (ne-eqb (r .answer) 0 (λ e. lt-irrefl 0 (omega arith)))
+not-found r s h = rw (ne-eqb (r .answer) 0 (λ e. lt-irrefl 0 (omega arith)))
+
+-- what a neighbour counts for, where the step and its length are those of a side
+pub larger-le : {r a b : ℕ} → r ≡ max a b → a ≤ 32 → b ≤ 32 → r ≤ 32
+larger-le e h i = omega arith
+
+-- the first neighbour's weight, and then that of the others
+pub sum-le : {a b len : ℕ} (h : ℕ) → a ≤ b + 256 → b ≤ h + 2 * len → len ≤ 32 → a ≤ h + 512
+sum-le h d e f = omega arith
 
 -- the weight of a neighbour as long as the block, for at most three rows
 pub weight-le : (p : Span) (across : ℕ) → p .rows ≤ 3 → weightOf p across ≤ 6

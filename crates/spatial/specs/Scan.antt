@@ -4,7 +4,7 @@ use Prim.Native.Nat.{ℕ, zero, suc, _+_, _*_, _/_, _^_, _≤_, _<_, max, min}
 use mathlib.Core.Bool.{Bool, false}
 use lib.Dec.{eqb, ltb}
 use Rattle.ground.specs.Pick.{pick}
-use Rattle.stack.specs.Stack.{State, view}
+use Rattle.stack.specs.Stack.{State, Found, view}
 use Rattle.neighbours.specs.declared.read.Neighbour.{Neighbour}
 use Rattle.neighbours.specs.declared.read.Line.{Line}
 use Rattle.neighbours.specs.declared.read.Read.{Read}
@@ -23,8 +23,8 @@ pub data Outcome : Type 0 where
   found : State → ℕ → Outcome
 
 -- on a refusal nothing is said of the rest
-unfoldable pub outcome : Scan → Outcome
-outcome r = pick (eqb (r .answer) 0) (found (view (r .found)) (r .reach)) (refused (r .answer))
+unfoldable pub outcome : Scan → Found → Outcome
+outcome r s = pick (eqb (r .answer) 0) (found (view s) (r .reach)) (refused (r .answer))
 
 -- What is read goes on, or its refusal is the scan's.
 abbrev pub onRead : Read → (Neighbour → Outcome) → Outcome
@@ -78,8 +78,7 @@ pub record Room (ntile nrecs total : ℕ) (l : Line) : Type 0 where
   pub col : l .col < 2 ^ 32
 
 -- and the stack has room for the weights
-pub record Fair (count heft : ℕ) (p : Span) : Type 0 where
-  pub room : count ≤ 8
+pub record Fair (heft : ℕ) (p : Span) : Type 0 where
   pub light : heft < 2 ^ 30
   pub size : p .size ≤ 32
   pub span : p .limit ≤ 16

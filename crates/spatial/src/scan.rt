@@ -6,13 +6,12 @@ use neighbours::read::Read;
 use neighbours::read::neighbour_at;
 use neighbours::read::read_at;
 use neighbours::want::Want;
-use stack::candidate::Found;
 ghost use mathlib.Core.Path.{_≡_};
 ghost use mathlib.Core.Bool.{false};
 ghost use Prim.Native.Nat.{_+_, _*_, _≤_, _<_, _^_, max, min};
 ghost use lib.ListN.{length};
 ghost use Rattle.layout.specs.TileBytes.{tileAt};
-ghost use Rattle.stack.specs.Stack.{live, view, heft};
+ghost use Rattle.stack.specs.Numbers.{foundAt, viewAt, heftAt, Held};
 ghost use Rattle.neighbours.specs.Neighbour.{readAt, lineAt};
 ghost use Rattle.spatial.specs.Scan.{weightOf, outcome, nextOf, scanOn, scanFrom, scanOf, pointOf, Room, Fair, Sized};
 
@@ -25,10 +24,9 @@ pub struct Span {
     pub step: usize,
 }
 
-// answer is 0, or a refusal, and then nothing is meant by the others. reach is how many rows of
+// answer is 0, or a refusal, and then nothing is meant by reach, nor by what was found. reach is how many rows of
 // neighbours the scan stands for.
 pub struct Scan {
-    pub found: Found,
     pub answer: u8,
     pub reach: usize,
 }
@@ -88,31 +86,28 @@ fn scan_on(
     q: Want,
     p: Span,
     from: usize,
-    s: Found,
+    s: &mut [u64],
 ) -> Scan
-    requires { ⌜ Room (length (now tile)) (length (now recs)) total l × Fair (s .count) 0 p × (heft (live s) < 2 ^ 31) × (from ≤ 64) ⌝ }
-    ensures { λ r. ⌜ (r .found .count ≤ 8) × (heft (live (r .found)) ≤ heft (live s) + 256) × (r .reach ≤ 16) ⌝ }
-    ensures { λ r. ⌜ outcome r ≡ scanOn (lineAt (readAt (tileAt (now (tile .entry)) .rows) (now (recs .entry)) total) l) (l .down) q p (p .limit) from (view s) ⌝ }
+    requires { ⌜ Room (length (now tile)) (length (now recs)) total l × Held (now s) × Fair 0 p × (heftAt (now s) < 2 ^ 31) × (from ≤ 64) ⌝ }
+    ensures { λ r. ⌜ Held (now (s .exit)) × (heftAt (now (s .exit)) ≤ heftAt (now (s .entry)) + 256) × (r .reach ≤ 16) ⌝ }
+    ensures { λ r. ⌜ outcome r (foundAt (now (s .exit))) ≡ scanOn (lineAt (readAt (tileAt (now (tile .entry)) .rows) (now (recs .entry)) total) l) (l .down) q p (p .limit) from (viewAt (now (s .entry))) ⌝ }
 {
-    let mut t = s;
     let mut x = from;
     while x < p.limit {
         match next_at(tile, recs, total, l, p, x) {
             Next::Refused(n) => {
                 return Scan {
-                    found: t,
                     answer: n,
                     reach: 0,
                 };
             }
             Next::Take(k, len) => {
-                t = add_spatial(t, (2 * len) as u32, k.block, q, l.down);
+                add_spatial(s, (2 * len) as u64, k.block, q, l.down);
                 x += len;
             }
         }
     }
     Scan {
-        found: t,
         answer: 0,
         reach: 1,
     }
@@ -127,24 +122,23 @@ fn scan_from(
     q: Want,
     p: Span,
     k: Neighbour,
-    s: Found,
+    s: &mut [u64],
 ) -> Scan
-    requires { ⌜ Room (length (now tile)) (length (now recs)) total l × Fair (s .count) (heft (live s)) p × Sized (l .down) k ⌝ }
-    ensures { λ r. ⌜ (r .found .count ≤ 8) × (heft (live (r .found)) ≤ heft (live s) + 512) × (r .reach ≤ 16) ⌝ }
-    ensures { λ r. ⌜ outcome r ≡ scanFrom (lineAt (readAt (tileAt (now (tile .entry)) .rows) (now (recs .entry)) total) l) (l .down) q p k (view s) ⌝ }
+    requires { ⌜ Room (length (now tile)) (length (now recs)) total l × Held (now s) × Fair (heftAt (now s)) p × Sized (l .down) k ⌝ }
+    ensures { λ r. ⌜ Held (now (s .exit)) × (heftAt (now (s .exit)) ≤ heftAt (now (s .entry)) + 512) × (r .reach ≤ 16) ⌝ }
+    ensures { λ r. ⌜ outcome r (foundAt (now (s .exit))) ≡ scanFrom (lineAt (readAt (tileAt (now (tile .entry)) .rows) (now (recs .entry)) total) l) (l .down) q p k (viewAt (now (s .entry))) ⌝ }
 {
     let n = k.along(l.down);
     if n < p.size {
         let len = larger(p.step, n);
-        let t = add_spatial(s, (2 * len) as u32, k.block, q, l.down);
-        return scan_on(tile, recs, total, l, q, p, len, t);
+        add_spatial(s, (2 * len) as u64, k.block, q, l.down);
+        return scan_on(tile, recs, total, l, q, p, len, s);
     }
     let across = k.across(l.down);
     let weight = weigh(p, across);
     let len = larger(p.step, p.size);
-    let found = add_spatial(s, (len * weight) as u32, k.block, q, l.down);
+    add_spatial(s, (len * weight) as u64, k.block, q, l.down);
     Scan {
-        found,
         answer: 0,
         reach: weight / 2,
     }
@@ -157,15 +151,14 @@ pub fn scan_line(
     l: Line,
     q: Want,
     p: Span,
-    s: Found,
+    s: &mut [u64],
 ) -> Scan
-    requires { ⌜ Room (length (now tile)) (length (now recs)) total l × Fair (s .count) (heft (live s)) p ⌝ }
-    ensures { λ r. ⌜ (r .found .count ≤ 8) × (heft (live (r .found)) ≤ heft (live s) + 512) × (r .reach ≤ 16) ⌝ }
-    ensures { λ r. ⌜ outcome r ≡ scanOf (lineAt (readAt (tileAt (now (tile .entry)) .rows) (now (recs .entry)) total) l) (l .down) q p (view s) ⌝ }
+    requires { ⌜ Room (length (now tile)) (length (now recs)) total l × Held (now s) × Fair (heftAt (now s)) p ⌝ }
+    ensures { λ r. ⌜ Held (now (s .exit)) × (heftAt (now (s .exit)) ≤ heftAt (now (s .entry)) + 512) × (r .reach ≤ 16) ⌝ }
+    ensures { λ r. ⌜ outcome r (foundAt (now (s .exit))) ≡ scanOf (lineAt (readAt (tileAt (now (tile .entry)) .rows) (now (recs .entry)) total) l) (l .down) q p (viewAt (now (s .entry))) ⌝ }
 {
     match neighbour_at(tile, recs, total, l, 0) {
         Read::Refused(n) => Scan {
-            found: s,
             answer: n,
             reach: 0,
         },
@@ -181,22 +174,20 @@ pub fn point(
     e: usize,
     col: usize,
     q: Want,
-    s: Found,
+    s: &mut [u64],
 ) -> Scan
-    requires { ⌜ (168 ≤ length (now tile)) × (12 * total ≤ length (now recs)) × (s .count ≤ 8) × (heft (live s) < 2 ^ 31) ⌝ }
-    ensures { λ r. ⌜ (r .found .count ≤ 8) × (heft (live (r .found)) ≤ heft (live s) + 4) ⌝ }
-    ensures { λ r. ⌜ outcome r ≡ pointOf (readAt (tileAt (now (tile .entry)) .rows) (now (recs .entry)) total e col) q (view s) ⌝ }
+    requires { ⌜ (168 ≤ length (now tile)) × (12 * total ≤ length (now recs)) × Held (now s) × (heftAt (now s) < 2 ^ 31) ⌝ }
+    ensures { λ r. ⌜ Held (now (s .exit)) × (heftAt (now (s .exit)) ≤ heftAt (now (s .entry)) + 4) ⌝ }
+    ensures { λ r. ⌜ outcome r (foundAt (now (s .exit))) ≡ pointOf (readAt (tileAt (now (tile .entry)) .rows) (now (recs .entry)) total e col) q (viewAt (now (s .entry))) ⌝ }
 {
     match read_at(tile, recs, total, e, col) {
         Read::Refused(n) => Scan {
-            found: s,
             answer: n,
             reach: 0,
         },
         Read::Of(k) => {
-            let found = add_spatial(s, 4, k.block, q, false);
+            add_spatial(s, 4, k.block, q, false);
             Scan {
-                found,
                 answer: 0,
                 reach: 0,
             }

@@ -4,34 +4,45 @@ use neighbours::want::Offer;
 use neighbours::want::Want;
 use neighbours::want::offered;
 use stack::add::add;
-use stack::candidate::Found;
+use stack::numbers::Flag;
+use stack::numbers::put_flag;
 ghost use mathlib.Core.Path.{_≡_};
 ghost use Prim.Native.Nat.{_+_, _≤_, _<_, _^_};
-ghost use Rattle.stack.specs.Stack.{live, view, heft};
-ghost use Rattle.spatial.specs.Take.{noted, spatial};
+ghost use lib.ListN.{length};
+ghost use Rattle.stack.specs.Numbers.{foundAt, viewAt, heftAt, Held};
+ghost use Rattle.spatial.specs.Take.{spatial, modeFlag, sideFlag};
 
-// A neighbour has matched: above, or to the left where the line went down.
-fn note(s: Found, mf: u8, down: bool) -> Found
-    ensures { λ r. ⌜ (r .count ≡ s .count) × (view r ≡ noted down mf (view s)) × (live r ≡ live s) ⌝ }
+fn note_mode(s: &mut [u64], mf: u8)
+    requires { ⌜ length (now s) ≡ 20 ⌝ }
+    ensures { λ _. ⌜ foundAt (now (s .exit)) ≡ modeFlag mf (foundAt (now (s .entry))) ⌝ }
 {
-    let mut t = s;
     if 2 <= mf {
-        t.newmv = true;
+        put_flag(s, Flag::NewMv);
     }
-    if down {
-        t.left = true;
-    } else {
-        t.above = true;
-    }
-    t
 }
 
-pub fn add_spatial(s: Found, w: u32, k: Block, q: Want, down: bool) -> Found
-    requires { ⌜ (s .count ≤ 8) × (heft (live s) + w < 2 ^ 32) ⌝ }
-    ensures { λ r. ⌜ (r .count ≤ 8) × (view r ≡ spatial down w k q (view s)) × (heft (live r) ≤ heft (live s) + w) ⌝ }
+// Above, or to the left where the line went down.
+fn note_side(s: &mut [u64], down: bool)
+    requires { ⌜ length (now s) ≡ 20 ⌝ }
+    ensures { λ _. ⌜ foundAt (now (s .exit)) ≡ sideFlag down (foundAt (now (s .entry))) ⌝ }
+{
+    if down {
+        put_flag(s, Flag::Left);
+    } else {
+        put_flag(s, Flag::Above);
+    }
+}
+
+pub fn add_spatial(s: &mut [u64], w: u64, k: Block, q: Want, down: bool)
+    requires { ⌜ Held (now s) × (heftAt (now s) + w < 2 ^ 32) ⌝ }
+    ensures { λ _. ⌜ Held (now (s .exit)) × (viewAt (now (s .exit)) ≡ spatial down w k q (viewAt (now (s .entry)))) × (heftAt (now (s .exit)) ≤ heftAt (now (s .entry)) + w) ⌝ }
 {
     match offered(k, q) {
-        Offer::Nothing => s,
-        Offer::Pair(p) => note(add(s, p, w), k.mf, down),
+        Offer::Nothing => {}
+        Offer::Pair(p) => {
+            add(s, p, w);
+            note_mode(s, k.mf);
+            note_side(s, down);
+        }
     }
 }

@@ -11,7 +11,7 @@ use cases::row::RowNumbers;
 use frame::record::Frame;
 use lines::print;
 use rows::setup::Tile;
-use rows::splat::splat_mv;
+use splats::splat::splat_mv;
 ghost use Prim.Native.Nat.{_≤_};
 ghost use lib.ListN.{length};
 

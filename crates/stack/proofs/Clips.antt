@@ -1,47 +1,67 @@
--- What `held` returns at each of its ends, and where clamped vectors lie.
+-- What `held` returns by its two tests, one turn of the clamp, and where clamped vectors lie.
 -- Assumes nothing.
-use mathlib.Core.Path.{_≡_, sym, ap, _∙_}
-use mathlib.Core.Bool.{Bool, true}
+use mathlib.Core.Path.{_≡_, sym, ap, ap₂, _∙_, subst⁻¹}
+use mathlib.Core.Bool.{true, false}
 use mathlib.Core.List.{List, [], _∷_, map}
-use Prim.Native.Nat.{ℕ, min, _^_, _≤_, _<_}
+use Prim.Native.Nat.{ℕ, min, _+_, _^_, _<_, zero-le}
 use native.Mathlib.Omega.{arith}
-use lib.IntN.{ℤ, pos, negℤ, natAbs}
-use lib.Signed.{mag}
+use lib.ListN.{getD, set, length-set}
+use lib.IntN.{ℤ, pos, negsuc, negℤ, natAbs}
+use lib.Signed.{mag, ltZ}
+use borrow.Author.Tests.{le-ltb}
 use Rattle.ground.specs.Pick.{pick}
 use Rattle.ground.specs.Sign.{signed, below, fromTo, clip3}
-use Rattle.ground.proofs.Signs.{whole, clip3-sides, clip3-lies}
+use Rattle.ground.proofs.Picks.{pick-true, pick-false}
+use Rattle.ground.proofs.Signs.{clip3-sides, clip3-lies}
 use Rattle.vector.specs.declared.mv.Mv.{Mv}
-use Rattle.vector.proofs.Vectors.{half-most}
+use Rattle.cells.specs.declared.block.MvPair.{MvPair}
 use Rattle.stack.specs.declared.candidate.Candidate.{Candidate}
 use Rattle.stack.specs.declared.clamp.Reach.{Reach}
 use Rattle.stack.specs.Stack.{State}
-use Rattle.stack.specs.Clamp.{clampedMv, clampedOne, clamped}
+use Rattle.stack.specs.Numbers.{pairBits, pairIn, candAt, foundAt, Held}
+use Rattle.stack.specs.Clamp.{clampedMv, clampedPair, clampedOne, clamped, lowest, highest}
+use Rattle.stack.proofs.Helds.{stack-long, cand-is, pair-laid, FitsPair, pair-back}
+use Rattle.stack.proofs.Maps.{Turned, turns}
+use Rattle.stack.proofs.Swaps.{still-held}
 
--- The sign s decides which bound counts: past it the bound is the answer, else the number itself. The number u is what the local read back, z what the contract
--- speaks of.
-module _ (back on : ℕ) (s : Bool) {z u : ℤ} {t : Bool} {m : ℕ} (same : u ≡ z) (sign : t ≡ below u) (told : t ≡ s) (size : m ≡ natAbs u) where
-  big : m ≡ natAbs z
-  big = size ∙ ap natAbs same
+-- a component's magnitude is held to a bound that a component can have as it is to the bound
+side : (back on : ℕ) (z : ℤ) → mag z < 2 ^ 15
+    → min (natAbs z) (pick (below z) (min back 32768) (min on 32767)) ≡ min (natAbs z) (pick (below z) back on)
+side back on (pos n) h = rw (le-ltb n 0 zero-le) (omega arith)
+side back on (negsuc n) h = omega arith
 
-  sided : s ≡ below z
-  sided = sym told ∙ sign ∙ ap below same
+-- so a component is held to them
+held-too : (back on : ℕ) (z : ℤ) → mag z < 2 ^ 15 → clip3 (lowest back) (highest on) z ≡ clip3 (negℤ (pos back)) (pos on) z
+held-too back on z h =
+    clip3-sides (min back 32768) (min on 32767) z ∙ ap (signed (below z)) (side back on z h) ∙ sym (clip3-sides back on z)
 
-  by-sign : clip3 (negℤ (pos back)) (pos on) z ≡ signed s (min (natAbs z) (pick s back on))
-  by-sign = clip3-sides back on z ∙ ap (λ (b : Bool). signed b (min (natAbs z) (pick b back on))) (sym sided)
+-- What the code's two tests tell, one after the other. The numbers u, a and b are what the locals read back, z is what the contract speaks of.
+module _ (back on : ℕ) {z u a : ℤ} (fits : mag z < 2 ^ 15) (same : u ≡ z) (low : a ≡ lowest back) where
+  pub too-low : ltZ u a ≡ true → a ≡ clip3 (negℤ (pos back)) (pos on) z
+  unfolding clip3
+  too-low t = low ∙ sym (pick-true _ (sym (ap₂ ltZ same low) ∙ t)) ∙ held-too back on z fits
 
-  pub past : pick s back on < m → signed s (pick s back on) ≡ clip3 (negℤ (pos back)) (pos on) z
-  past h =
-      let e : pick s back on ≡ min (natAbs z) (pick s back on) = omega (arith, big) in
-      ap (signed s) e ∙ sym by-sign
+  pub too-high : {b : ℤ} → b ≡ highest on → ltZ u a ≡ false → ltZ b u ≡ true → b ≡ clip3 (negℤ (pos back)) (pos on) z
+  unfolding clip3
+  too-high high t v =
+      high ∙ sym (pick-false _ (sym (ap₂ ltZ same low) ∙ t) ∙ pick-true _ (sym (ap₂ ltZ high same) ∙ v)) ∙ held-too back on z fits
 
-  pub short : m ≤ pick s back on → u ≡ clip3 (negℤ (pos back)) (pos on) z
-  short h =
-      let e : natAbs z ≡ min (natAbs z) (pick s back on) = omega (arith, big) in
-      same ∙ sym (whole z) ∙ ap (λ (b : Bool). signed b (natAbs z)) (sym sided) ∙ ap (signed s) e ∙ sym by-sign
+  pub between : {b : ℤ} → b ≡ highest on → ltZ u a ≡ false → ltZ b u ≡ false → u ≡ clip3 (negℤ (pos back)) (pos on) z
+  unfolding clip3
+  between high t v =
+      same ∙ sym (pick-false _ (sym (ap₂ ltZ same low) ∙ t) ∙ pick-false _ (sym (ap₂ ltZ high same) ∙ v)) ∙ held-too back on z fits
 
--- a bound that a component passes is one that a component can have
-pub has-room : (k : ℕ) {z u : ℤ} {m : ℕ} → mag z < 2 ^ 15 → u ≡ z → m ≡ natAbs u → k < m → k < 32768
-has-room k {z} fits same size h = omega (arith, half-most z fits, size ∙ ap natAbs same)
+-- one turn of the clamp: p is the pair that was read, q what it is held to, k the number that is stored
+pub clamps : (r : Reach) (l₀ l : List ℕ) (i : ℕ) {p q : MvPair} {k : ℕ} → Held l → i < 8 → Turned (clampedOne r) (foundAt l₀) i (foundAt l)
+    → p ≡ pairIn (getD l i 0) → q ≡ clampedPair r p → FitsPair q → k ≡ pairBits q
+    → Held (set l i k) × Turned (clampedOne r) (foundAt l₀) (i + 1) (foundAt (set l i k))
+unfolding candAt
+clamps r l₀ l i {p} {q} {k} h n t e d f g =
+    let w = getD l (8 + i) 0 in
+    let u = pair-laid l i k (h .size) n in
+    let m : pairIn k ≡ clampedPair r (pairIn (getD l i 0)) = ap pairIn g ∙ pair-back q f ∙ d ∙ ap (clampedPair r) e in
+    let c = ap (λ (x : MvPair). record { mv = x; weight = w }) m ∙ ap (clampedOne r) (sym (cand-is l i n)) in
+    (still-held h (length-set l i k) u, subst⁻¹ (Turned (clampedOne r) (foundAt l₀) (i + 1)) u (turns t (omega (arith, stack-long l₀, n)) c))
 
 -- both components lie in their reach
 pub record Inside (r : Reach) (v : Mv) : Type 0 where

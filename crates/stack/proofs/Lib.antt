@@ -1,7 +1,9 @@
 -- The laws of the definitions in specs/.
+pub mod Helds
 pub mod Adds
 pub mod Counts
 pub mod Maps
 pub mod Moves
+pub mod Swaps
 pub mod Clips
 pub mod Answers

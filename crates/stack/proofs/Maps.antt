@@ -7,12 +7,7 @@ use native.Mathlib.Omega.{arith}
 use native.Mathlib.Numerals.{add-one}
 use lib.ListN.{length, getD, set, take, drop}
 use Rattle.stack.specs.declared.candidate.Candidate.{Candidate}
-use Rattle.stack.specs.declared.candidate.Found.{Found}
-use Rattle.stack.specs.Stack.{State, nobody, live, view, withCands}
-
--- another array of candidates, all else alike
-abbrev pub withStack : Found → List Candidate → Found
-withStack s l = record { stack = l; count = s .count; newmv = s .newmv; above = s .above; left = s .left }
+use Rattle.stack.specs.Stack.{State, Found, withStack, nobody, live, view, withCands}
 
 module _ (f : Candidate → Candidate) where
   -- the first i are changed

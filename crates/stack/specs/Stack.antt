@@ -8,7 +8,6 @@ use Rattle.ground.specs.Pick.{pick}
 use Rattle.vector.specs.Vector.{zero, eqMv}
 use Rattle.cells.specs.declared.block.MvPair.{MvPair}
 use Rattle.stack.specs.declared.candidate.Candidate.{Candidate}
-use Rattle.stack.specs.declared.candidate.Found.{Found}
 
 -- What a search has found so far: its candidates in order, whether a matching neighbour's mode has a new vector, whether a neighbour above matched, and one to
 -- the left.
@@ -18,7 +17,19 @@ pub record State : Type 0 where
   pub above : Bool
   pub left : Bool
 
--- the candidates in use, and the state that the code's record stands for
+-- What the lent numbers hold (`Numbers`): eight candidates, of which the first `count` are in use, and the flags.
+pub record Found : Type 0 where
+  pub stack : List Candidate
+  pub count : ℕ
+  pub newmv : Bool
+  pub above : Bool
+  pub left : Bool
+
+-- other candidates, all else alike
+abbrev pub withStack : Found → List Candidate → Found
+withStack s l = record { stack = l; count = s .count; newmv = s .newmv; above = s .above; left = s .left }
+
+-- the candidates in use, and the state that they stand for
 unfoldable pub live : Found → List Candidate
 live s = take (s .count) (s .stack)
 
@@ -51,6 +62,13 @@ stands l p = ltb (findIn l p) (length l)
 abbrev pub heavier : ℕ → Candidate → Candidate
 heavier w c = record { mv = c .mv; weight = c .weight + w }
 
+-- the candidate at i gains weight; and one behind those in use
+unfoldable pub weightier : ℕ → ℕ → Found → Found
+weightier w i s = withStack s (set (s .stack) i (heavier w (getD (s .stack) i nobody)))
+
+unfoldable pub appended : Found → Candidate → Found
+appended s c = record { stack = set (s .stack) (s .count) c; count = suc (s .count); newmv = s .newmv; above = s .above; left = s .left }
+
 -- A candidate that stands there already gains the weight; a new one goes behind the others, and is dropped where there are eight (MAX_REF_MV_STACK_SIZE).
 unfoldable pub addTo : List Candidate → MvPair → ℕ → List Candidate
 addTo l p w =
@@ -60,7 +78,10 @@ addTo l p w =
 unfoldable pub joined : State → MvPair → ℕ → State
 joined s p w = withCands s (addTo (s .cands) p w)
 
--- the extra search's way: appended with weight 2 where it is new
+-- the extra search's way: behind the others with weight 2, or so only where it is new
+unfoldable pub pushed : State → MvPair → State
+pushed s p = withCands s (s .cands ++ (record { mv = p; weight = 2 } ∷ []))
+
 unfoldable pub extended : State → MvPair → State
 extended s p = withCands s (pick (stands (s .cands) p) (s .cands) (s .cands ++ (record { mv = p; weight = 2 } ∷ [])))
 

@@ -1,22 +1,22 @@
 // A candidate goes onto the stack: it makes an equal one heavier, or stands behind the others.
-use crate::candidate::Candidate;
-use crate::candidate::Found;
-use crate::candidate::same;
+use crate::numbers::count_in;
+use crate::numbers::pair_bits;
 use cells::block::MvPair;
 ghost use mathlib.Core.Path.{_≡_};
 ghost use Prim.Native.Nat.{_+_, _≤_, _<_, _^_};
-ghost use Rattle.stack.specs.Stack.{live, heft, findIn, view, joined, extended, raised};
+ghost use lib.ListN.{getD};
+ghost use Rattle.stack.specs.Stack.{live, heft, findIn, view, eqPair, nobody, joined, extended, pushed, raised, appended, weightier};
+ghost use Rattle.stack.specs.Numbers.{pairIn, foundAt, Held};
 
-// Where the pair stands among the candidates; their count where it doesn't.
-fn find(s: Found, p: MvPair) -> usize
-    requires { ⌜ s .count ≤ 8 ⌝ }
-    ensures { λ r. ⌜ r ≡ findIn (live s) p ⌝ }
+// Where a pair stands among the candidates; their count where it doesn't.
+fn seek(s: &[u64], k: u64) -> usize
+    requires { ⌜ Held (now s) ⌝ }
+    ensures { λ r. ⌜ r ≡ findIn (live (foundAt (now (s .entry)))) (pairIn k) ⌝ }
 {
-    let n = s.count;
+    let n = count_in(s);
     let mut i: usize = 0;
     while i < n {
-        let c = s.stack[i];
-        if same(c.mv, p) {
+        if s[i] == k {
             return i;
         }
         i += 1;
@@ -24,50 +24,82 @@ fn find(s: Found, p: MvPair) -> usize
     n
 }
 
-// With eight candidates a new one is dropped.
-pub fn add(s: Found, p: MvPair, w: u32) -> Found
-    requires { ⌜ (s .count ≤ 8) × (heft (live s) + w < 2 ^ 32) ⌝ }
-    ensures { λ r. ⌜ (r .count ≤ 8) × (view r ≡ joined (view s) p w) × (heft (live r) ≤ heft (live s) + w) ⌝ }
+// Behind the others.
+fn lay(s: &mut [u64], n: usize, k: u64, w: u64)
+    requires { ⌜ Held (now s) × (n ≡ foundAt (now s) .count) × (n < 8) ⌝ }
+    ensures { λ _. ⌜ Held (now (s .exit)) × (foundAt (now (s .exit)) ≡ appended (foundAt (now (s .entry))) (record { mv = pairIn k; weight = w })) ⌝ }
 {
-    let i = find(s, p);
-    let mut t = s;
-    if i < s.count {
-        let mut c = t.stack[i];
-        c.weight += w;
-        t.stack[i] = c;
-    } else if i < 8 {
-        t.stack[i] = Candidate { mv: p, weight: w };
-        t.count = i + 1;
-    }
-    t
+    s[n] = k;
+    s[8 + n] = w;
+    s[16] = (n + 1) as u64;
 }
 
-// A candidate of the extra search: with the least weight, and only where it is new.
-pub fn add_new(s: Found, p: MvPair) -> Found
-    requires { ⌜ s .count < 8 ⌝ }
-    ensures { λ r. ⌜ (r .count ≤ s .count + 1) × (view r ≡ extended (view s) p) ⌝ }
+fn add_weight(s: &mut [u64], i: usize, w: u64)
+    requires { ⌜ Held (now s) × (i < foundAt (now s) .count) × (heft (live (foundAt (now s))) + w < 2 ^ 32) ⌝ }
+    ensures { λ _. ⌜ Held (now (s .exit)) × (foundAt (now (s .exit)) ≡ weightier w i (foundAt (now (s .entry)))) ⌝ }
 {
-    let i = find(s, p);
-    let mut t = s;
-    if i == s.count {
-        t.stack[i] = Candidate { mv: p, weight: 2 };
-        t.count = i + 1;
+    s[8 + i] += w;
+}
+
+// By the pair's number. With eight candidates a new one is dropped.
+pub fn add_bits(s: &mut [u64], k: u64, w: u64)
+    requires { ⌜ Held (now s) × (heft (live (foundAt (now s))) + w < 2 ^ 32) ⌝ }
+    ensures { λ _. ⌜ Held (now (s .exit)) × (view (foundAt (now (s .exit))) ≡ joined (view (foundAt (now (s .entry)))) (pairIn k) w) × (heft (live (foundAt (now (s .exit)))) ≤ heft (live (foundAt (now (s .entry)))) + w) ⌝ }
+{
+    let i = seek(s, k);
+    let n = count_in(s);
+    if i < n {
+        add_weight(s, i, w);
+    } else if n < 8 {
+        lay(s, n, k, w);
     }
-    t
+}
+
+pub fn add(s: &mut [u64], p: MvPair, w: u64)
+    requires { ⌜ Held (now s) × (heft (live (foundAt (now s))) + w < 2 ^ 32) ⌝ }
+    ensures { λ _. ⌜ Held (now (s .exit)) × (view (foundAt (now (s .exit))) ≡ joined (view (foundAt (now (s .entry)))) p w) × (heft (live (foundAt (now (s .exit)))) ≤ heft (live (foundAt (now (s .entry)))) + w) ⌝ }
+{
+    add_bits(s, pair_bits(p), w);
+}
+
+// A candidate of the extra search has the least weight.
+pub fn push(s: &mut [u64], p: MvPair)
+    requires { ⌜ Held (now s) × (foundAt (now s) .count < 8) ⌝ }
+    ensures { λ _. ⌜ Held (now (s .exit)) × (foundAt (now (s .exit)) .count ≡ foundAt (now (s .entry)) .count + 1) × (view (foundAt (now (s .exit))) ≡ pushed (view (foundAt (now (s .entry)))) p) ⌝ }
+{
+    lay(s, count_in(s), pair_bits(p), 2);
+}
+
+// Only where it is new.
+pub fn add_new(s: &mut [u64], p: MvPair)
+    requires { ⌜ Held (now s) × (foundAt (now s) .count < 8) ⌝ }
+    ensures { λ _. ⌜ Held (now (s .exit)) × (foundAt (now (s .exit)) .count ≤ foundAt (now (s .entry)) .count + 1) × (view (foundAt (now (s .exit))) ≡ extended (view (foundAt (now (s .entry)))) p) ⌝ }
+{
+    let k = pair_bits(p);
+    let i = seek(s, k);
+    let n = count_in(s);
+    if i == n {
+        lay(s, n, k, 2);
+    }
+}
+
+// Whether the first candidate's pair is p.
+pub fn is_first(s: &[u64], p: MvPair) -> bool
+    requires { ⌜ Held (now s) × (0 < foundAt (now s) .count) ⌝ }
+    ensures { λ r. ⌜ r ≡ eqPair (getD (live (foundAt (now (s .entry)))) 0 nobody .mv) p ⌝ }
+{
+    s[0] == pair_bits(p)
 }
 
 // What the nearest neighbours gave outweighs all that comes later.
-pub fn raise(s: Found) -> Found
-    requires { ⌜ (s .count ≤ 8) × (heft (live s) + 5120 < 2 ^ 32) ⌝ }
-    ensures { λ r. ⌜ (r .count ≡ s .count) × (view r ≡ raised (view s)) × (heft (live r) ≤ heft (live s) + 5120) ⌝ }
+pub fn raise(s: &mut [u64])
+    requires { ⌜ Held (now s) × (heft (live (foundAt (now s))) + 5120 < 2 ^ 32) ⌝ }
+    ensures { λ _. ⌜ Held (now (s .exit)) × (foundAt (now (s .exit)) .count ≡ foundAt (now (s .entry)) .count) × (view (foundAt (now (s .exit))) ≡ raised (view (foundAt (now (s .entry))))) × (heft (live (foundAt (now (s .exit)))) ≤ heft (live (foundAt (now (s .entry)))) + 5120) ⌝ }
 {
-    let mut t = s;
+    let n = count_in(s);
     let mut i: usize = 0;
-    while i < s.count {
-        let mut c = t.stack[i];
-        c.weight += 640;
-        t.stack[i] = c;
+    while i < n {
+        s[8 + i] += 640;
         i += 1;
     }
-    t
 }

@@ -1,17 +1,16 @@
 // Candidates are held to what the frame's surroundings allow.
-use crate::candidate::Candidate;
-use crate::candidate::Found;
+use crate::numbers::count_in;
+use crate::numbers::pair_bits;
+use crate::numbers::pair_in;
 use cells::block::MvPair;
-use ground::sign::magnitude;
-use ground::sign::negative;
-use ground::sign::with_sign;
 use vector::mv::Mv;
 ghost use mathlib.Core.Path.{_≡_};
 ghost use Prim.Native.Nat.{_≤_};
 ghost use lib.IntN.{pos, negℤ};
 ghost use Rattle.ground.specs.Sign.{clip3};
 ghost use Rattle.stack.specs.Stack.{view};
-ghost use Rattle.stack.specs.Clamp.{clampedMv, clamped};
+ghost use Rattle.stack.specs.Numbers.{foundAt, Held};
+ghost use Rattle.stack.specs.Clamp.{lowest, highest, clampedMv, clampedPair, clamped};
 
 // How far a vector may point, in eighths of a sample: up, down, to the left and to the right.
 pub struct Reach {
@@ -21,19 +20,29 @@ pub struct Reach {
     pub right: u32,
 }
 
-// A bound is a magnitude, and may lie past what a component holds.
+// A reach as a component's bound, either way: it may lie past what a component holds.
+fn low(n: u32) -> i16
+    ensures { λ r. ⌜ r ≡ lowest n ⌝ }
+{
+    if n < 32768 { -(n as i16) } else { -32768 }
+}
+
+fn high(n: u32) -> i16
+    ensures { λ r. ⌜ r ≡ highest n ⌝ }
+{
+    if n < 32768 { n as i16 } else { 32767 }
+}
+
 fn held(c: i16, back: u32, on: u32) -> i16
     ensures { λ r. ⌜ r ≡ clip3 (negℤ (pos back)) (pos on) c ⌝ }
 {
-    let m = magnitude(c);
-    if negative(c) {
-        if back < m {
-            return with_sign(true, back);
-        }
-        return c;
+    let least = low(back);
+    if c < least {
+        return least;
     }
-    if on < m {
-        return with_sign(false, on);
+    let most = high(on);
+    if most < c {
+        return most;
     }
     c
 }
@@ -47,7 +56,7 @@ fn clamp_mv(v: Mv, r: Reach) -> Mv
 }
 
 fn clamp_pair(p: MvPair, r: Reach) -> MvPair
-    ensures { λ q. ⌜ q ≡ record { first = clampedMv r (p .first); second = clampedMv r (p .second) } ⌝ }
+    ensures { λ q. ⌜ q ≡ clampedPair r p ⌝ }
 {
     let first = clamp_mv(p.first, r);
     let second = clamp_mv(p.second, r);
@@ -55,20 +64,14 @@ fn clamp_pair(p: MvPair, r: Reach) -> MvPair
 }
 
 // Both vectors of each candidate; a single search's second, ZERO, stays.
-pub fn clamp(s: Found, r: Reach) -> Found
-    requires { ⌜ s .count ≤ 8 ⌝ }
-    ensures { λ t. ⌜ (t .count ≡ s .count) × (view t ≡ clamped r (view s)) ⌝ }
+pub fn clamp(s: &mut [u64], r: Reach)
+    requires { ⌜ Held (now s) ⌝ }
+    ensures { λ _. ⌜ Held (now (s .exit)) × (foundAt (now (s .exit)) .count ≡ foundAt (now (s .entry)) .count) × (view (foundAt (now (s .exit))) ≡ clamped r (view (foundAt (now (s .entry))))) ⌝ }
 {
-    let mut t = s;
+    let n = count_in(s);
     let mut i: usize = 0;
-    while i < s.count {
-        let c = t.stack[i];
-        let mv = clamp_pair(c.mv, r);
-        t.stack[i] = Candidate {
-            mv,
-            weight: c.weight,
-        };
+    while i < n {
+        s[i] = pair_bits(clamp_pair(pair_in(s[i]), r));
         i += 1;
     }
-    t
 }

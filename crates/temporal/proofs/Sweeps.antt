@@ -15,13 +15,11 @@ use Rattle.cells.specs.declared.block.MvPair.{MvPair}
 use Rattle.cells.specs.Cell.{cellAt, wellProjected, projectedAbsent}
 use Rattle.site.specs.declared.block.Site.{Site}
 use Rattle.site.specs.Site.{Placed}
-use Rattle.stack.specs.declared.candidate.Found.{Found}
-use Rattle.stack.specs.Stack.{State, view, joined}
+use Rattle.stack.specs.Stack.{State, Found, view, joined}
 use Rattle.temporal.specs.declared.aim.Aim.{Aim}
 use Rattle.temporal.specs.declared.aim.CellRead.{CellRead}
 use Rattle.temporal.specs.declared.aim.CellRead.the-variants.{Of, Absent, Refused}
 use Rattle.temporal.specs.declared.sweep.Field.{Field}
-use Rattle.stack.specs.declared.candidate.Answered.{Answered}
 use Rattle.temporal.specs.Temporal.{cellRead, candidateOf}
 use Rattle.stack.specs.Answered.{Outcome, refused, found, outcome, onFound}
 use Rattle.stack.proofs.Answers.{is-found, is-refused}
@@ -40,24 +38,21 @@ read-refused l total i n e = by (not (ltb i total)) (not (wellProjected (cellAt 
 
 -- one cell, by what was read
 module _ (l : List ℕ) (total i : ℕ) (a : Aim) (s : Found) where
-  pub visit-refused : {n : ℕ} {q : CellRead} → q ≡ cellRead l total i → q ≡ Refused n
-      → outcome (record { found = s; answer = n }) ≡ visitOf (cellRead l total) a i (view s)
+  pub visit-refused : {n : ℕ} {q : CellRead} → q ≡ cellRead l total i → q ≡ Refused n → outcome n s ≡ visitOf (cellRead l total) a i (view s)
   unfolding visitOf
   visit-refused {n} e t =
       let k = read-refused l total i n (sym e ∙ t) in
-      is-refused (record { found = s; answer = n }) (λ z. lt-irrefl 0 (omega arith)) ∙ ap (cellSwept a (view s)) (sym t ∙ e)
+      is-refused n s (λ z. lt-irrefl 0 (omega arith)) ∙ ap (cellSwept a (view s)) (sym t ∙ e)
 
-  pub visit-absent : {q : CellRead} → q ≡ cellRead l total i → q ≡ Absent
-      → outcome (record { found = s; answer = 0 }) ≡ visitOf (cellRead l total) a i (view s)
+  pub visit-absent : {q : CellRead} → q ≡ cellRead l total i → q ≡ Absent → outcome 0 s ≡ visitOf (cellRead l total) a i (view s)
   unfolding visitOf
-  visit-absent e t = is-found (record { found = s; answer = 0 }) refl ∙ ap (cellSwept a (view s)) (sym t ∙ e)
+  visit-absent e t = is-found 0 s refl ∙ ap (cellSwept a (view s)) (sym t ∙ e)
 
   pub visit-joined : {c : Cell} {p : MvPair} {q : CellRead} (r : Found) → q ≡ cellRead l total i → q ≡ Of c
       → p ≡ candidateOf a c → view r ≡ joined (view s) p 2
-      → outcome (record { found = r; answer = 0 }) ≡ visitOf (cellRead l total) a i (view s)
+      → outcome 0 r ≡ visitOf (cellRead l total) a i (view s)
   unfolding visitOf
-  visit-joined r e t k j =
-      is-found (record { found = r; answer = 0 }) refl ∙ ap found (j ∙ ap (λ (x : MvPair). joined (view s) x 2) k) ∙ ap (cellSwept a (view s)) (sym t ∙ e)
+  visit-joined r e t k j = is-found 0 r refl ∙ ap found (j ∙ ap (λ (x : MvPair). joined (view s) x 2) k) ∙ ap (cellSwept a (view s)) (sym t ∙ e)
 
 -- What a row of cells and a grid of rows have in common: `one` at i, then on from i + step.
 pub record Turns (go : ℕ → ℕ → State → Outcome) (one : ℕ → State → Outcome) (step : ℕ) : Type 0 where
@@ -89,20 +84,20 @@ module _ {go : ℕ → ℕ → State → Outcome} {one : ℕ → State → Outco
       p ∙ t .more n i s ∙ ap (λ (x : Outcome). onFound x (go n (i + step))) (sym e ∙ r) ∙ ap (λ m. go m (i + step) u) k
 
 -- a cell that is looked at only where it is to be
-module _ (cells : ℕ → CellRead) (a : Aim) (i : ℕ) (r : Answered) where
-  pub where-refused : (here : Bool) → (r .answer ≡ 0 → ⊥) → outcome r ≡ whereOf here cells a i (outcome r)
+module _ (cells : ℕ → CellRead) (a : Aim) (i r : ℕ) (s : Found) where
+  pub where-refused : (here : Bool) → (r ≡ 0 → ⊥) → outcome r s ≡ whereOf here cells a i (outcome r s)
   unfolding whereOf
   where-refused here n =
-      let e = is-refused r n in
-      e ∙ sym (ap (λ (x : Outcome). onFound x (λ s. pick here (visitOf cells a i s) (found s))) e)
+      let e = is-refused r s n in
+      e ∙ sym (ap (λ (x : Outcome). onFound x (λ t. pick here (visitOf cells a i t) (found t))) e)
 
-  pub where-here : {here : Bool} {v : Outcome} → r .answer ≡ 0 → here ≡ true → v ≡ visitOf cells a i (view (r .found)) → v ≡ whereOf here cells a i (outcome r)
+  pub where-here : {here : Bool} {v : Outcome} → r ≡ 0 → here ≡ true → v ≡ visitOf cells a i (view s) → v ≡ whereOf here cells a i (outcome r s)
   unfolding whereOf
-  where-here z h e = rw (is-found r z, h) e
+  where-here z h e = rw (is-found r s z, h) e
 
-  pub where-not : {here : Bool} → r .answer ≡ 0 → here ≡ false → outcome r ≡ whereOf here cells a i (outcome r)
+  pub where-not : {here : Bool} → r ≡ 0 → here ≡ false → outcome r s ≡ whereOf here cells a i (outcome r s)
   unfolding whereOf
-  where-not z h = rw (is-found r z, h)
+  where-not z h = rw (is-found r s z, h)
 
 -- at most eight cells are looked at along a side
 pub cells-most : (limit step : ℕ) → limit ≤ 16 → 1 ≤ step → step ≤ 2 → cellsAlong limit step ≤ 8

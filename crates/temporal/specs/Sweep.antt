@@ -78,8 +78,7 @@ unfoldable pub temporalOf : (ℕ → CellRead) → Aim → Field → Site → St
 temporalOf cells a f b s = pick (hasCorners b) (cornersOf cells a f b (gridOf cells a f b s)) (gridOf cells a f b s)
 
 -- What a caller sees to: the stack takes `more` weight,
-pub record Light (more count heft : ℕ) : Type 0 where
-  pub room : count ≤ 8
+pub record Light (more heft : ℕ) : Type 0 where
   pub light : heft + more < 2 ^ 32
 
 -- the listed cells are lent, and no reference is farther than 31,

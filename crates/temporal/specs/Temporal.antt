@@ -15,7 +15,7 @@ use Rattle.cells.specs.declared.cell.Ref.{Ref}
 use Rattle.cells.specs.declared.cell.Cell.{Cell}
 use Rattle.cells.specs.declared.block.MvPair.{MvPair}
 use Rattle.cells.specs.Cell.{cellAt, projectedAbsent, wellProjected}
-use Rattle.frame.specs.Distances.{flagOf}
+use Rattle.hints.specs.Distances.{flagOf}
 use Rattle.temporal.specs.declared.aim.Aim.{Aim}
 use Rattle.temporal.specs.declared.aim.CellRead.{CellRead}
 use Rattle.temporal.specs.declared.aim.CellRead.the-variants.{Of, Absent, Refused}

@@ -2,9 +2,10 @@
 use cells::block::MvPair;
 use cells::cell::Cell;
 use cells::cell::Ref;
-use frame::distances::flag;
 use ground::sign::magnitude;
 use ground::twos::byte_bits;
+use hints::distances::flag;
+use stack::numbers::pair_bits;
 use vector::mv::Mv;
 use vector::precision::fix_mv_precision;
 use vector::projection::mv_projection;
@@ -15,6 +16,7 @@ ghost use lib.ListN.{length};
 ghost use lib.IntN.{natAbs};
 ghost use Rattle.vector.specs.Vector.{Within};
 ghost use Rattle.cells.specs.Cell.{wellProjected, projectedAbsent};
+ghost use Rattle.stack.specs.Numbers.{pairIn};
 ghost use Rattle.temporal.specs.Temporal.{towards, pairOf, cellRead, apart, farOf, zeroOf, Aimed};
 
 // How far the wanted references lie from the current frame, at which precision vectors are kept,
@@ -80,7 +82,7 @@ fn second_of(c: Cell, a: Aim, den: u32) -> Mv
 }
 
 // The candidate of a cell that isn't absent.
-pub fn pair_of(c: Cell, a: Aim) -> MvPair
+fn pair_of(c: Cell, a: Aim) -> MvPair
     requires { ⌜ (wellProjected c ≡ true) × (projectedAbsent c ≡ false) × (natAbs (a .first) ≤ 31) × (natAbs (a .second) ≤ 31) ⌝ }
     ensures { λ r. ⌜ (r ≡ pairOf a (natAbs (c .reference .0)) (c .mv)) × Within 16384 (r .first) ⌝ }
 {
@@ -88,6 +90,15 @@ pub fn pair_of(c: Cell, a: Aim) -> MvPair
     let first = take_towards(c.mv, a.first, den, a.integer, a.hp);
     let second = second_of(c, a, den);
     MvPair { first, second }
+}
+
+// The candidate in one number, as the stack holds it: handed over in two it would be read again before
+// both are laid.
+pub fn bits_of(c: Cell, a: Aim) -> u64
+    requires { ⌜ (wellProjected c ≡ true) × (projectedAbsent c ≡ false) × (natAbs (a .first) ≤ 31) × (natAbs (a .second) ≤ 31) ⌝ }
+    ensures { λ r. ⌜ pairIn r ≡ pairOf a (natAbs (c .reference .0)) (c .mv) ⌝ }
+{
+    pair_bits(pair_of(c, a))
 }
 
 // Two samples or more apart.

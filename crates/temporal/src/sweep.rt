@@ -2,18 +2,16 @@
 // outside it.
 use crate::aim::Aim;
 use crate::aim::CellRead;
+use crate::aim::bits_of;
 use crate::aim::cell_at;
-use crate::aim::pair_of;
 use rows::setup::lesser;
 use site::block::Site;
-use stack::add::add;
-use stack::candidate::Answered;
-use stack::candidate::Found;
+use stack::add::add_bits;
 ghost use mathlib.Core.Path.{_≡_};
 ghost use mathlib.Core.Bool.{true, _&&_};
 ghost use Prim.Native.Nat.{_+_, _*_, _≤_, _<_, _^_};
 ghost use lib.ListN.{length};
-ghost use Rattle.stack.specs.Stack.{live, view, heft};
+ghost use Rattle.stack.specs.Numbers.{foundAt, viewAt, heftAt, Held};
 ghost use Rattle.stack.specs.Answered.{outcome};
 ghost use Rattle.site.specs.Site.{Placed};
 ghost use Rattle.temporal.specs.Temporal.{cellRead};
@@ -28,23 +26,17 @@ pub struct Field {
 }
 
 // One cell: nothing where it is absent.
-fn visit(proj: &[u8], total: usize, i: usize, a: Aim, s: Found) -> Answered
-    requires { ⌜ Near (length (now proj)) total a × Light 2 (s .count) (heft (live s)) ⌝ }
-    ensures { λ r. ⌜ (r .found .count ≤ 8) × (heft (live (r .found)) ≤ heft (live s) + 2) ⌝ }
-    ensures { λ r. ⌜ outcome r ≡ visitOf (cellRead (now (proj .entry)) total) a i (view s) ⌝ }
+fn visit(proj: &[u8], total: usize, i: usize, a: Aim, s: &mut [u64]) -> u8
+    requires { ⌜ Near (length (now proj)) total a × Held (now s) × Light 2 (heftAt (now s)) ⌝ }
+    ensures { λ r. ⌜ Held (now (s .exit)) × (heftAt (now (s .exit)) ≤ heftAt (now (s .entry)) + 2) ⌝ }
+    ensures { λ r. ⌜ outcome r (foundAt (now (s .exit))) ≡ visitOf (cellRead (now (proj .entry)) total) a i (viewAt (now (s .entry))) ⌝ }
 {
     match cell_at(proj, total, i) {
-        CellRead::Refused(n) => Answered {
-            found: s,
-            answer: n,
-        },
-        CellRead::Absent => Answered {
-            found: s,
-            answer: 0,
-        },
+        CellRead::Refused(n) => n,
+        CellRead::Absent => 0,
         CellRead::Of(c) => {
-            let found = add(s, pair_of(c, a), 2);
-            Answered { found, answer: 0 }
+            add_bits(s, bits_of(c, a), 2);
+            0
         }
     }
 }
@@ -57,28 +49,23 @@ fn sweep_row(
     step: usize,
     n: usize,
     a: Aim,
-    s: Found,
-) -> Answered
-    requires { ⌜ Near (length (now proj)) total a × Light 16 (s .count) (heft (live s)) × (n ≤ 8) × (step ≤ 2) × (first < 2 ^ 48) ⌝ }
-    ensures { λ r. ⌜ (r .found .count ≤ 8) × (heft (live (r .found)) ≤ heft (live s) + 2 * n) ⌝ }
-    ensures { λ r. ⌜ outcome r ≡ inRow (cellRead (now (proj .entry)) total) a step n first (view s) ⌝ }
+    s: &mut [u64],
+) -> u8
+    requires { ⌜ Near (length (now proj)) total a × Held (now s) × Light 16 (heftAt (now s)) × (n ≤ 8) × (step ≤ 2) × (first < 2 ^ 48) ⌝ }
+    ensures { λ r. ⌜ Held (now (s .exit)) × (heftAt (now (s .exit)) ≤ heftAt (now (s .entry)) + 2 * n) ⌝ }
+    ensures { λ r. ⌜ outcome r (foundAt (now (s .exit))) ≡ inRow (cellRead (now (proj .entry)) total) a step n first (viewAt (now (s .entry))) ⌝ }
 {
-    let mut t = s;
     let mut i = first;
     let mut left = n;
     while 0 < left {
-        let r = visit(proj, total, i, a, t);
-        if r.answer != 0 {
+        let r = visit(proj, total, i, a, s);
+        if r != 0 {
             return r;
         }
-        t = r.found;
         i += step;
         left -= 1;
     }
-    Answered {
-        found: t,
-        answer: 0,
-    }
+    0
 }
 
 // m such rows, down apart.
@@ -90,28 +77,23 @@ fn sweep_grid(
     down: usize,
     m: usize,
     a: Aim,
-    s: Found,
-) -> Answered
-    requires { ⌜ Near (length (now proj)) (f .total) a × Light 128 (s .count) (heft (live s)) × (n ≤ 8) × (step ≤ 2) × (m ≤ 8) × (down ≤ 8192) × (f .first < 2 ^ 40) ⌝ }
-    ensures { λ r. ⌜ (r .found .count ≤ 8) × (heft (live (r .found)) ≤ heft (live s) + 16 * m) ⌝ }
-    ensures { λ r. ⌜ outcome r ≡ inGrid (cellRead (now (proj .entry)) (f .total)) a step n down m (f .first) (view s) ⌝ }
+    s: &mut [u64],
+) -> u8
+    requires { ⌜ Near (length (now proj)) (f .total) a × Held (now s) × Light 128 (heftAt (now s)) × (n ≤ 8) × (step ≤ 2) × (m ≤ 8) × (down ≤ 8192) × (f .first < 2 ^ 40) ⌝ }
+    ensures { λ r. ⌜ Held (now (s .exit)) × (heftAt (now (s .exit)) ≤ heftAt (now (s .entry)) + 16 * m) ⌝ }
+    ensures { λ r. ⌜ outcome r (foundAt (now (s .exit))) ≡ inGrid (cellRead (now (proj .entry)) (f .total)) a step n down m (f .first) (viewAt (now (s .entry))) ⌝ }
 {
-    let mut t = s;
     let mut i = f.first;
     let mut left = m;
     while 0 < left {
-        let r = sweep_row(proj, f.total, i, step, n, a, t);
-        if r.answer != 0 {
+        let r = sweep_row(proj, f.total, i, step, n, a, s);
+        if r != 0 {
             return r;
         }
-        t = r.found;
         i += down;
         left -= 1;
     }
-    Answered {
-        found: t,
-        answer: 0,
-    }
+    0
 }
 
 // A block of 64 samples or more along a side has every other cell looked at.
@@ -129,10 +111,10 @@ fn cells_along(limit: usize, step: usize) -> usize
     ((limit + 1) / 2 + step - 1) / step
 }
 
-fn sweep_block(proj: &[u8], f: Field, b: Site, a: Aim, s: Found) -> Answered
-    requires { ⌜ Near (length (now proj)) (f .total) a × Light 128 (s .count) (heft (live s)) × Fielded f × Placed b ⌝ }
-    ensures { λ r. ⌜ (r .found .count ≤ 8) × (heft (live (r .found)) ≤ heft (live s) + 128) ⌝ }
-    ensures { λ r. ⌜ outcome r ≡ gridOf (cellRead (now (proj .entry)) (f .total)) a f b (view s) ⌝ }
+fn sweep_block(proj: &[u8], f: Field, b: Site, a: Aim, s: &mut [u64]) -> u8
+    requires { ⌜ Near (length (now proj)) (f .total) a × Held (now s) × Light 128 (heftAt (now s)) × Fielded f × Placed b ⌝ }
+    ensures { λ r. ⌜ Held (now (s .exit)) × (heftAt (now (s .exit)) ≤ heftAt (now (s .entry)) + 128) ⌝ }
+    ensures { λ r. ⌜ outcome r (foundAt (now (s .exit))) ≡ gridOf (cellRead (now (proj .entry)) (f .total)) a f b (viewAt (now (s .entry))) ⌝ }
 {
     let dx = stride_along(b.w.0);
     let dy = stride_along(b.h.0);
@@ -142,16 +124,16 @@ fn sweep_block(proj: &[u8], f: Field, b: Site, a: Aim, s: Found) -> Answered
 }
 
 // Only where all before were read, and the cell is one to be looked at.
-fn visit_where(here: bool, proj: &[u8], total: usize, i: usize, a: Aim, r: Answered) -> Answered
-    requires { ⌜ Near (length (now proj)) total a × Light 2 (r .found .count) (heft (live (r .found))) ⌝ }
-    ensures { λ t. ⌜ (t .found .count ≤ 8) × (heft (live (t .found)) ≤ heft (live (r .found)) + 2) ⌝ }
-    ensures { λ t. ⌜ outcome t ≡ whereOf here (cellRead (now (proj .entry)) total) a i (outcome r) ⌝ }
+fn visit_where(here: bool, proj: &[u8], total: usize, i: usize, a: Aim, r: u8, s: &mut [u64]) -> u8
+    requires { ⌜ Near (length (now proj)) total a × Held (now s) × Light 2 (heftAt (now s)) ⌝ }
+    ensures { λ t. ⌜ Held (now (s .exit)) × (heftAt (now (s .exit)) ≤ heftAt (now (s .entry)) + 2) ⌝ }
+    ensures { λ t. ⌜ outcome t (foundAt (now (s .exit))) ≡ whereOf here (cellRead (now (proj .entry)) total) a i (outcome r (foundAt (now (s .entry)))) ⌝ }
 {
-    if r.answer != 0 {
+    if r != 0 {
         return r;
     }
     if here {
-        return visit(proj, total, i, a, r.found);
+        return visit(proj, total, i, a, s);
     }
     r
 }
@@ -214,18 +196,18 @@ fn has_corners(b: Site) -> bool
 }
 
 // Below left, below right, and to the right of the block's last row.
-fn sweep_corners(proj: &[u8], f: Field, b: Site, a: Aim, r: Answered) -> Answered
-    requires { ⌜ Near (length (now proj)) (f .total) a × Light 6 (r .found .count) (heft (live (r .found))) × Fielded f × Placed b × (hasCorners b ≡ true) ⌝ }
-    ensures { λ t. ⌜ (t .found .count ≤ 8) × (heft (live (t .found)) ≤ heft (live (r .found)) + 6) ⌝ }
-    ensures { λ t. ⌜ outcome t ≡ cornersOf (cellRead (now (proj .entry)) (f .total)) a f b (outcome r) ⌝ }
+fn sweep_corners(proj: &[u8], f: Field, b: Site, a: Aim, r: u8, s: &mut [u64]) -> u8
+    requires { ⌜ Near (length (now proj)) (f .total) a × Held (now s) × Light 6 (heftAt (now s)) × Fielded f × Placed b × (hasCorners b ≡ true) ⌝ }
+    ensures { λ t. ⌜ Held (now (s .exit)) × (heftAt (now (s .exit)) ≤ heftAt (now (s .entry)) + 6) ⌝ }
+    ensures { λ t. ⌜ outcome t (foundAt (now (s .exit))) ≡ cornersOf (cellRead (now (proj .entry)) (f .total)) a f b (outcome r (foundAt (now (s .entry)))) ⌝ }
 {
     let w8 = b.w.0 / 2;
     let h8 = b.h.0 / 2;
     let below = is_there(b, true, h8);
     let right = is_there(b, false, w8);
     let under = f.first + h8 * f.stride;
-    let one = visit_where(both(below, is_left(b)), proj, f.total, under - 1, a, r);
-    let two = visit_where(both(right, below), proj, f.total, under + w8, a, one);
+    let one = visit_where(both(below, is_left(b)), proj, f.total, under - 1, a, r, s);
+    let two = visit_where(both(right, below), proj, f.total, under + w8, a, one, s);
     let last = is_there(b, true, h8 - 1);
     visit_where(
         both(right, last),
@@ -234,6 +216,7 @@ fn sweep_corners(proj: &[u8], f: Field, b: Site, a: Aim, r: Answered) -> Answere
         under + w8 - f.stride,
         a,
         two,
+        s,
     )
 }
 
@@ -244,14 +227,14 @@ fn both(a: bool, b: bool) -> bool
 }
 
 // All that the projection gives to a block's search.
-pub fn sweep_all(proj: &[u8], f: Field, b: Site, a: Aim, s: Found) -> Answered
-    requires { ⌜ Near (length (now proj)) (f .total) a × Light 134 (s .count) (heft (live s)) × Fielded f × Placed b ⌝ }
-    ensures { λ r. ⌜ (r .found .count ≤ 8) × (heft (live (r .found)) ≤ heft (live s) + 134) ⌝ }
-    ensures { λ r. ⌜ outcome r ≡ temporalOf (cellRead (now (proj .entry)) (f .total)) a f b (view s) ⌝ }
+pub fn sweep_all(proj: &[u8], f: Field, b: Site, a: Aim, s: &mut [u64]) -> u8
+    requires { ⌜ Near (length (now proj)) (f .total) a × Held (now s) × Light 134 (heftAt (now s)) × Fielded f × Placed b ⌝ }
+    ensures { λ r. ⌜ Held (now (s .exit)) × (heftAt (now (s .exit)) ≤ heftAt (now (s .entry)) + 134) ⌝ }
+    ensures { λ r. ⌜ outcome r (foundAt (now (s .exit))) ≡ temporalOf (cellRead (now (proj .entry)) (f .total)) a f b (viewAt (now (s .entry))) ⌝ }
 {
     let r = sweep_block(proj, f, b, a, s);
     if has_corners(b) {
-        return sweep_corners(proj, f, b, a, r);
+        return sweep_corners(proj, f, b, a, r, s);
     }
     r
 }

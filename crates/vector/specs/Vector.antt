@@ -1,11 +1,11 @@
 -- The motion vector: its fixed values, operations by component, and its four bytes (document 01, "Bytes that are lent").
-use Prim.Native.Nat.{ℕ, _+_, _≤_}
+use Prim.Native.Nat.{ℕ, _+_, _*_, _/_, _%_, _≤_}
 use mathlib.Core.Bool.{Bool, _&&_}
 use mathlib.Core.List.{List, _++_}
 use lib.Dec.{leb}
 use lib.IntN.{ℤ, pos, negsuc, natAbs}
 use Rattle.ground.specs.Sign.{eqZ}
-use Rattle.ground.specs.Twos.{halfAt, halfOf}
+use Rattle.ground.specs.Twos.{halfAt, halfOf, twos16, bits16}
 use Rattle.vector.specs.declared.mv.Mv.{Mv}
 
 abbrev pub zero : Mv
@@ -38,3 +38,10 @@ mvAt l i = record { y = halfAt l i; x = halfAt l (i + 2) }
 
 abbrev pub mvBytes : Mv → List ℕ
 mvBytes v = halfOf (v .y) ++ halfOf (v .x)
+
+-- the vector in one number of 32 bits, y in the lower half; and the vector that such a number holds
+unfoldable pub mvBits : Mv → ℕ
+mvBits v = bits16 (v .y) + 65536 * bits16 (v .x)
+
+unfoldable pub mvOf : ℕ → Mv
+mvOf n = record { y = twos16 (n % 65536); x = twos16 (n / 65536) }

@@ -1,5 +1,7 @@
 // The motion vector, and its four bytes.
-use ground::twos::read_half;
+use ground::read::u32_at;
+use ground::twos::half_bits;
+use ground::twos::signed_half;
 use ground::twos::write_half;
 ghost use mathlib.Core.Path.{_≡_};
 ghost use Prim.Native.Nat.{_+_, _≤_};
@@ -7,7 +9,7 @@ ghost use lib.ListN.{length};
 ghost use lib.Dec.{leb};
 ghost use lib.IntN.{negℤ, natAbs};
 ghost use Rattle.ground.specs.Put.{put};
-ghost use Rattle.vector.specs.Vector.{Within, within, invalid, eqMv, both, mvAt, mvBytes};
+ghost use Rattle.vector.specs.Vector.{Within, within, invalid, eqMv, both, mvAt, mvBytes, mvBits, mvOf};
 
 // In eighths of a sample, down and to the right.
 pub struct Mv {
@@ -72,13 +74,27 @@ impl Mv {
         }
     }
 
+    // One number for both components, the lower half for y.
+    pub fn bits(self) -> u32
+        ensures { λ r. ⌜ r ≡ mvBits self ⌝ }
+    {
+        half_bits(self.y) as u32 + 65536 * (half_bits(self.x) as u32)
+    }
+
+    pub fn of_bits(n: u32) -> Mv
+        ensures { λ r. ⌜ r ≡ mvOf n ⌝ }
+    {
+        let y = signed_half((n % 65536) as u16);
+        let x = signed_half((n / 65536) as u16);
+        Mv { y, x }
+    }
+
+    // All four bytes at once: two halves would be read one by one.
     pub fn read(s: &[u8], at: usize) -> Mv
         requires { ⌜ at + 4 ≤ length (now s) ⌝ }
         ensures { λ r. ⌜ r ≡ mvAt (now (s .entry)) at ⌝ }
     {
-        let y = read_half(s, at);
-        let x = read_half(s, at + 2);
-        Mv { y, x }
+        Mv::of_bits(u32_at(s, at))
     }
 
     pub fn write(self, s: &mut [u8], at: usize)

@@ -4,6 +4,7 @@ use ground::sign::magnitude;
 use ground::sign::negative;
 use ground::sign::with_sign;
 ghost use mathlib.Core.Path.{_≡_};
+ghost use mathlib.Core.Bool.{_&&_, not};
 ghost use Prim.Native.Nat.{_≤_};
 ghost use lib.IntN.{natAbs};
 ghost use Rattle.vector.specs.Vector.{Within, both};
@@ -30,10 +31,20 @@ fn lower(c: i16, integer: bool, hp: bool) -> i16
     with_sign(negative(c), m)
 }
 
+// At high precision, where integer vectors aren't asked for, a vector stays as it is.
+fn keeps(integer: bool, hp: bool) -> bool
+    ensures { λ r. ⌜ r ≡ (hp && not integer) ⌝ }
+{
+    if hp { !integer } else { false }
+}
+
 pub fn fix_mv_precision(mv: Mv, integer: bool, hp: bool) -> Mv
     requires { ⌜ Within 16384 mv ⌝ }
     ensures { λ r. ⌜ r ≡ both (lowered integer hp) mv ⌝ }
 {
+    if keeps(integer, hp) {
+        return mv;
+    }
     let y = lower(mv.y, integer, hp);
     let x = lower(mv.x, integer, hp);
     Mv { y, x }

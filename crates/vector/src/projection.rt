@@ -10,48 +10,13 @@ ghost use Rattle.ground.specs.Sign.{round2};
 ghost use Rattle.vector.specs.Vector.{Within, both};
 ghost use Rattle.vector.specs.Projection.{divMult, projected};
 
-// floor(16384 / den), entry 0 unused.
-const DIV_MULT: [u16; 32] = [
-    0,
-    16384,
-    8192,
-    5461,
-    4096,
-    3276,
-    2730,
-    2340,
-    2048,
-    1820,
-    1638,
-    1489,
-    1365,
-    1260,
-    1170,
-    1092,
-    1024,
-    963,
-    910,
-    862,
-    819,
-    780,
-    744,
-    712,
-    682,
-    655,
-    630,
-    606,
-    585,
-    564,
-    546,
-    528,
-];
-
+// The standard's table Div_Mult, which is floor(16384 / den): a division costs less than an array
+// that is laid anew at each call.
 fn div_mult(den: u32) -> u32
     requires { ⌜ (0 < den) × (den < 32) ⌝ }
     ensures { λ r. ⌜ r ≡ divMult den ⌝ }
 {
-    let i = den as usize;
-    DIV_MULT[i] as u32
+    16384 / den
 }
 
 // The magnitude of a component of magnitude c, scaled by num / den, rounded and clipped.

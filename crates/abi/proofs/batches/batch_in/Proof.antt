@@ -1,6 +1,6 @@
 -- `abi::batches::batch_in` meets its contract.
 -- Assumes nothing.
-use Rattle.rows.specs.Table.{tab}
+use Rattle.ground.specs.Tab.{tab}
 use Rattle.abi.specs.JobBytes.{batchIn}
 use borrow.Author.Needs.{needs}
 use Rattle.abi.proofs.batches.batch_in.Statement.{statement}

@@ -1,6 +1,6 @@
 -- `abi::captures::put_steps` meets its contract.
 -- Assumes nothing.
-use Rattle.rows.specs.Table.{tab}
+use Rattle.ground.specs.Tab.{tab}
 use Rattle.abi.specs.Captured.{stepsOf}
 use borrow.Author.Needs.{needs}
 use Rattle.abi.proofs.captures.put_steps.Statement.{statement}

@@ -6,8 +6,9 @@ use denote.Ref.{now}
 use lib.Dec.{lit≤}
 use Rattle.layout.specs.TileBytes.{tileAt}
 use Rattle.neighbours.specs.Neighbour.{readAt}
-use Rattle.stack.specs.Stack.{live, view, heft}
+use Rattle.stack.specs.Numbers.{foundAt, viewAt}
 use Rattle.around.specs.declared.near.Around.{Around}
+use Rattle.around.proofs.Steps.{corner-light, round-light}
 use Rattle.around.proofs.Chains.{far-ends}
 use borrow.Author.Needs.{needs}
 use Rattle.around.proofs.far.far.Statement.{statement}
@@ -27,36 +28,41 @@ around-by-requires c κs = search needs
 
 round-requires : tie.Need-round-requires
 round-requires c κs =
-    let p = c .before .before .before .before .before .before .pre in
-    let r = c .before .point-where .ensures .0 in
-    rw (c .around-by .ensures) (p .0, p .1, r .0, omega (arith, r .1, p .2 .light), lit≤ tt, lit≤ tt, omega (arith, p .3), omega (arith, p .4))
+    let p = c .before .before .before .before .before .before .before .before .before .before .before .pre in
+    let r = c .before .before .before .before .point-where .ensures .0 in
+    rw (c .before .around-by .ensures) (p .0, p .1, r .0, corner-light (p .3) (r .1), lit≤ tt, lit≤ tt, omega (arith, p .4), omega (arith, p .5))
 
 round-requires-2 : tie.Need-round-requires-2
 round-requires-2 c κs =
-    let p = c .before .before .before .before .before .before .before .pre in
-    let r = c .before .before .point-where .ensures .0 in
-    let e = c .before .around-by .ensures in
-    let t = c .round .ensures .0 in (
+    let e = c .before .before .before .before .before .around-by .ensures in
+    let t = c .before .before .before .round .ensures .0 in
+    let p = c .before .before .before .before .before .before .before .before .before .before .before .before .before .before .before .pre in (
       p .0,
       p .1,
       t .0,
-      omega (arith, t .1, ap (λ (x : Around). heft (live (x .found))) e, r .1, p .2 .light),
+      round-light (p .3) (c .before .before .before .before .before .before .before .before .point-where .ensures .0 .1) (t .1),
       lit≤ tt,
       lit≤ tt,
-      omega (arith, t .2, ap (λ (x : Around). x .above) e, p .3),
-      omega (arith, t .3, ap (λ (x : Around). x .left) e, p .4),
+      omega (arith, t .2, ap (λ (x : Around). x .above) e, p .4),
+      omega (arith, t .3, ap (λ (x : Around). x .left) e, p .5),
     )
+
+same-length : tie.Need-same-length
+same-length c = search needs
 
 returns : tie.Need-returns
 returns c =
-    let a = c .before .before .before .before .before .before .before .before .args in
-    let r = c .before .before .before .point-where in
-    let e = c .round2 .ensures in (
-      e .0 .0,
-      far-ends (readAt (tileAt (now (a .tile)) .rows) (now (a .recs)) (a .total)) (a .b) (a .above) (a .left) (a .q) (view (a .s)) (r .result) (c .before .round .result) (c .round2 .result)
-          (rw (← c .before .before .before .before .before .has-left .ensures, ← c .before .before .before .before .before2 .ensures) (r .ensures .1))
-          (rw (← c .before .before .around-by .ensures) (c .before .round .ensures .1))
-          (e .1),
+    let e = c .before .before .round2 in
+    let d = c .before .before .before .before .before .before .round in
+    let m = c .before .before .before .before .before .before .before .before in
+    let r = m .before .before .before .point-where in
+    let a = m .before .before .before .before .before .before .before .before .before .before .args in (
+      e .ensures .0 .0,
+      far-ends (readAt (tileAt (now (a .tile)) .rows) (now (a .recs)) (a .total)) (a .b) (a .above) (a .left) (a .q) (viewAt (a .s .now)) (r .result) (d .result) (e .result)
+          (foundAt (r .last .1 .1 .1 .1 .1 .1 .1 .0)) (foundAt (d .last .1 .1 .1 .1 .1 .1 .1 .0)) _
+          (rw (← m .before .before .before .before .before .before .has-left .ensures, ← m .before .before .before .before .before .before2 .ensures) (r .ensures .1))
+          (rw (← m .around-by .ensures) (d .ensures .1))
+          (e .ensures .1),
     )
 
 pub far-spec : {M : Type 1} → statement M
@@ -69,4 +75,5 @@ far-spec =
     around-by-requires
     round-requires
     round-requires-2
+    same-length
     returns)

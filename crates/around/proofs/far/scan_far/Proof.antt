@@ -7,7 +7,7 @@ use borrow.Author.Tests.{le-leb, lt-leb, lt-ltb}
 use Rattle.layout.specs.TileBytes.{tileAt}
 use Rattle.neighbours.specs.Neighbour.{readAt}
 use Rattle.spatial.specs.Scan.{outcome}
-use Rattle.stack.specs.Stack.{view}
+use Rattle.stack.specs.Numbers.{viewAt}
 use Rattle.around.specs.Around.{farOf}
 use Rattle.around.proofs.Places.{far-room, far-fair}
 use Rattle.around.proofs.Steps.{reaches, far-is}
@@ -17,14 +17,14 @@ use Rattle.around.proofs.far.scan_far.Tie as tie
 
 returns : tie.Need-returns
 unfolding farOf outcome
-returns c = ((c .before .before .before .pre .2, omega arith, omega arith), rw (le-leb _ _ (c .if1 .taken)))
+returns c = ((c .before .before .before .before .pre .2, omega arith, omega arith), rw (le-leb _ _ (c .if1 .taken)))
 
 depth-requires : tie.Need-depth-requires
 depth-requires c κs = search needs
 
 returns-2 : tie.Need-returns-2
 unfolding farOf outcome
-returns-2 c = ((c .before .before .before .before .before .pre .2, omega arith, omega arith), rw (lt-leb _ _ (c .before .before .if1 .left), ← c .before .depth .ensures, lt-ltb _ _ (c .if2 .taken)))
+returns-2 c = ((c .before .before .before .before .before .before .pre .2, omega arith, omega arith), rw (lt-leb _ _ (c .before .before .if1 .left), ← c .before .depth .ensures, lt-ltb _ _ (c .if2 .taken)))
 
 far-line-requires : tie.Need-far-line-requires
 far-line-requires c κs = search needs
@@ -34,24 +34,29 @@ far-span-requires c κs = search needs
 
 scan-line-requires : tie.Need-scan-line-requires
 scan-line-requires c κs =
-    let f = c .before .before .before .before .before .before .before in
+    let f = c .before .before .before .before .before .before .before .before .before in
     let a = f .args in (
-      rw (c .before .far-line .ensures) (far-room (f .pre .0) (a .b) (f .pre .1) (a .down) (a .n)),
-      rw (c .far-span .ensures) (far-fair (f .pre .2) (omega (arith, f .pre .3)) (a .b) (f .pre .1) (a .down) (a .n) (f .pre .4)),
+      rw (c .before .before .far-line .ensures) (far-room (f .pre .0) (a .b) (f .pre .1) (a .down) (a .n)),
+      f .pre .2,
+      rw (c .before .far-span .ensures) (far-fair (omega (arith, f .pre .3)) (a .b) (f .pre .1) (a .down) (a .n) (f .pre .4)),
     )
 
-add-t14 : tie.Need-add-t14
-add-t14 c = search needs
+add-t13 : tie.Need-add-t13
+add-t13 c = search needs
+
+same-length : tie.Need-same-length
+same-length c = search needs
 
 returns-3 : tie.Need-returns-3
 returns-3 c =
-    let a = c .before .before .before .before .before .before .before .before .before .before .args in
-    let s = c .before .before .scan-line in
+    let s = c .before .before .before .scan-line in
+    let m = c .before .before .before .before .before in
+    let a = m .before .before .before .before .before .before .before .before .args in
     let r = s .ensures in (
       (r .0 .0, r .0 .1, omega (arith, r .0 .2)),
-      reaches (s .result) (a .reach)
-          ∙ far-is (readAt (tileAt (now (a .tile)) .rows) (now (a .recs)) (a .total)) (a .b) (a .down) (a .q) (view (a .s)) (r .1) (c .before .before .before .before .far-line .ensures) (c .before .before .before .far-span .ensures) (c .before .before .before .before .before .before .before .if1 .left)
-          (omega (arith, c .before .before .before .before .before .if2 .left, c .before .before .before .before .before .before .depth .ensures)),
+      reaches (s .result) _ (a .reach)
+          ∙ far-is (readAt (tileAt (now (a .tile)) .rows) (now (a .recs)) (a .total)) (a .b) (a .down) (a .q) (viewAt (a .s .now)) (r .1) (m .before .far-line .ensures) (m .far-span .ensures) (m .before .before .before .before .if1 .left)
+          (omega (arith, m .before .before .if2 .left, m .before .before .before .depth .ensures)),
     )
 
 pub scan-far-spec : {M : Type 1} → statement M
@@ -64,5 +69,6 @@ scan-far-spec =
     far-line-requires
     far-span-requires
     scan-line-requires
-    add-t14
+    add-t13
+    same-length
     returns-3)

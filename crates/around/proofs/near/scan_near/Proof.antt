@@ -8,7 +8,7 @@ use borrow.Author.Tests.{eq-eqb}
 use Rattle.layout.specs.TileBytes.{tileAt}
 use Rattle.neighbours.specs.Neighbour.{readAt}
 use Rattle.spatial.specs.Scan.{outcome}
-use Rattle.stack.specs.Stack.{view}
+use Rattle.stack.specs.Numbers.{viewAt}
 use Rattle.around.specs.Around.{nearOf}
 use Rattle.around.proofs.Places.{near-room, near-fair}
 use Rattle.around.proofs.Steps.{near-is}
@@ -21,7 +21,7 @@ depth-requires c κs = search needs
 
 returns : tie.Need-returns
 unfolding nearOf outcome
-returns c = ((c .before .before .before .before .pre .2 .room, omega arith, lit≤ tt), rw (← c .before .depth .ensures, eq-eqb _ _ (c .if1 .taken)))
+returns c = ((c .before .before .before .before .before .pre .2, omega arith, lit≤ tt), rw (← c .before .depth .ensures, eq-eqb _ _ (c .if1 .taken)))
 
 near-line-requires : tie.Need-near-line-requires
 near-line-requires c κs = search needs
@@ -31,17 +31,24 @@ near-span-requires c κs = search needs
 
 scan-line-requires : tie.Need-scan-line-requires
 scan-line-requires c κs =
-    let f = c .before .before .before .before .before .before in
-    let a = f .args in
-    (rw (c .before .near-line .ensures) (near-room (f .pre .0) (a .b) (f .pre .1) (a .down)), rw (c .near-span .ensures) (near-fair (f .pre .2 .room) (omega (arith, f .pre .2 .light)) (a .b) (f .pre .1) (a .down)))
+    let f = c .before .before .before .before .before .before .before .before in
+    let a = f .args in (
+      rw (c .before .before .near-line .ensures) (near-room (f .pre .0) (a .b) (f .pre .1) (a .down)),
+      f .pre .2,
+      rw (c .before .near-span .ensures) (near-fair (omega (arith, f .pre .3 .light)) (a .b) (f .pre .1) (a .down)),
+    )
+
+same-length : tie.Need-same-length
+same-length c = search needs
 
 returns-2 : tie.Need-returns-2
 returns-2 c =
-    let a = c .before .before .before .before .before .before .before .args in
-    let r = c .scan-line .ensures in (
+    let r = c .before .before .scan-line .ensures in
+    let m = c .before .before .before .before in
+    let a = m .before .before .before .before .before .before .before .args in (
       r .0,
-      near-is (readAt (tileAt (now (a .tile)) .rows) (now (a .recs)) (a .total)) (a .b) (a .down) (a .q) (view (a .s)) (r .1) (c .before .before .near-line .ensures) (c .before .near-span .ensures)
-          (λ z. c .before .before .before .if1 .left (c .before .before .before .before .depth .ensures ∙ z)),
+      near-is (readAt (tileAt (now (a .tile)) .rows) (now (a .recs)) (a .total)) (a .b) (a .down) (a .q) (viewAt (a .s .now)) (r .1) (m .before .near-line .ensures) (m .near-span .ensures)
+          (λ z. m .before .before .if1 .left (m .before .before .before .depth .ensures ∙ z)),
     )
 
 pub scan-near-spec : {M : Type 1} → statement M
@@ -53,4 +60,5 @@ scan-near-spec =
     near-line-requires
     near-span-requires
     scan-line-requires
+    same-length
     returns-2)

@@ -11,9 +11,12 @@ turn-requires c κs = search needs
 add-new-requires : tie.Need-add-new-requires
 add-new-requires c κs = search needs
 
+same-length : tie.Need-same-length
+same-length c = search needs
+
 returns : tie.Need-returns
 unfolding listOf
-returns c = (c .add-new .ensures .0, rw (← c .before .turn .ensures) (c .add-new .ensures .1))
+returns c = let t = c .before .before .add-new .ensures in (t .0, t .1, rw (← c .before .before .before .before .turn .ensures) (t .2))
 
 pub extend-by-spec : {M : Type 1} → statement M
-extend-by-spec = tie.close (tie.spec turn-requires add-new-requires returns)
+extend-by-spec = tie.close (tie.spec turn-requires add-new-requires same-length returns)

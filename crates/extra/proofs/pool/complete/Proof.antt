@@ -1,49 +1,77 @@
 -- `extra::pool::complete` meets its contract.
 -- Assumes nothing.
-use mathlib.Core.Path.{refl}
+use mathlib.Core.Path.{sym, ap, _∙_}
 use native.Mathlib.Omega.{arith}
-use lib.ListN.{length-map}
 use borrow.Author.Needs.{needs}
-use Rattle.stack.specs.Stack.{live, view}
-use Rattle.extra.proofs.Helds.{completes-none, completes-one}
+use Rattle.stack.specs.Stack.{State, view, pushed}
+use Rattle.extra.proofs.Helds.{how-many, completes-none, completes-first, completes-other}
 use Rattle.extra.proofs.pool.complete.Statement.{statement}
 use Rattle.extra.proofs.pool.complete.Tie as tie
 
-element-set-from-t : tie.Need-element-set-from-t
-element-set-from-t c = search needs
+count-in-requires : tie.Need-count-in-requires
+count-in-requires c κs = search needs
 
-element-set-from-t-2 : tie.Need-element-set-from-t-2
-element-set-from-t-2 c = search needs
+push-requires : tie.Need-push-requires
+push-requires c κs = search needs
 
-element-copy-out-other-than : tie.Need-element-copy-out-other-than
-element-copy-out-other-than c = search needs
+push-requires-2 : tie.Need-push-requires-2
+push-requires-2 c κs = search needs
 
-other-than-requires : tie.Need-other-than-requires
-other-than-requires c κs = search needs
-
-element-set-from-t-3 : tie.Need-element-set-from-t-3
-element-set-from-t-3 c = search needs
+same-length : tie.Need-same-length
+same-length c = search needs
 
 returns : tie.Need-returns
-unfolding view live
 returns c =
-    let s = c .before in
-    (refl, completes-none (s .args .t1) (simp length-map at (s .good .0 .1 .1 .0 .1 .0 .1)) (s .args .p) (s .args .q) (c .if1 .taken))
+    let a = c .before .before .before .before .before .before .before .before .before .before .before .before in
+    let t = c .before .before .before .before .before .before .push .ensures in
+    let u = c .before .before .push2 .ensures in
+    let n = how-many (a .args .s .now) (a .pre .0) in
+    (u .0, omega arith, u .2 ∙ ap (λ (v : State). pushed v (a .args .q)) (t .2) ∙ completes-none (a .args .p) (a .args .q) _ (omega arith))
+
+is-first-requires : tie.Need-is-first-requires
+is-first-requires c κs = search needs
+
+push-requires-3 : tie.Need-push-requires-3
+push-requires-3 c κs = search needs
+
+same-length-2 : tie.Need-same-length-2
+same-length-2 c = search needs
 
 returns-2 : tie.Need-returns-2
-unfolding view live
+unfolding view
 returns-2 c =
-    let s = c .before .before .before in
-    (refl, completes-one (s .args .t1) (simp length-map at (s .good .0 .1 .1 .0 .1 .0 .1)) (s .args .p) (s .args .q) (omega arith) (c .other-than .ensures))
+    let a = c .before .before .before .before .before .before .before .before .before .before .before in
+    let t = c .before .before .push3 .ensures in
+    let n = how-many (a .args .s .now) (a .pre .0) in
+    (t .0, omega arith, t .2 ∙ completes-first (a .args .p) (a .args .q) _ (omega arith) (sym (c .before .before .before .before .before .is-first .ensures) ∙ c .before .before .before .before .if2 .taken))
+
+push-requires-4 : tie.Need-push-requires-4
+push-requires-4 c κs = search needs
+
+same-length-3 : tie.Need-same-length-3
+same-length-3 c = search needs
+
+returns-3 : tie.Need-returns-3
+unfolding view
+returns-3 c =
+    let a = c .before .before .before .before .before .before .before .before .before .before .before in
+    let t = c .before .before .push4 .ensures in
+    let n = how-many (a .args .s .now) (a .pre .0) in
+    (t .0, omega arith, t .2 ∙ completes-other (a .args .p) (a .args .q) _ (omega arith) (sym (c .before .before .before .before .before .is-first .ensures) ∙ c .before .before .before .before .if2 .left))
 
 pub complete-spec : {M : Type 1} → statement M
 complete-spec =
     tie.close
     (tie.spec
-    element-set-from-t
-    element-set-from-t-2
-    element-copy-out-other-than
-    other-than-requires
-    element-set-from-t-3
+    count-in-requires
+    push-requires
+    push-requires-2
+    same-length
     returns
-    returns-2)
+    is-first-requires
+    push-requires-3
+    same-length-2
+    returns-2
+    push-requires-4
+    same-length-3
+    returns-3)

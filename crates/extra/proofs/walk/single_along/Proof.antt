@@ -1,37 +1,43 @@
 -- `extra::walk::single_along` meets its contract.
 -- Assumes nothing.
-use mathlib.Core.Path.{_≡_, refl, sym}
-use Prim.Native.Nat.{_-_, _≤_}
+use mathlib.Core.Path.{refl, sym, _∙_}
+use Prim.Native.Nat.{_-_, _≤_, _<_}
 use native.Mathlib.Omega.{arith}
-use lib.ListN.{length, length-map}
+use lib.ListN.{length}
 use borrow.Author.Needs.{needs}
 use denote.Ref.{now}
-use Rattle.stack.specs.Stack.{view}
+use Rattle.stack.specs.Numbers.{viewAt, countAt, Held}
 use Rattle.stack.specs.Answered.{outcome}
-use Rattle.stack.proofs.Adds.{live-length}
 use Rattle.extra.specs.Walk.{singleOn}
+use Rattle.extra.proofs.Helds.{how-many}
 use Rattle.extra.proofs.Walks.{line, some, known, strides, Goes, ends, enough, refuses, goes}
 use Rattle.extra.proofs.walk.single_along.Statement.{statement}
 use Rattle.extra.proofs.walk.single_along.Tie as tie
 
 abbrev Inv-loop : tie.InvT-loop
-Inv-loop tile recs total l limit biases r t₀ x₀ t x =
-    (t .count ≤ 3) × (length (t .stack) ≡ 8)
-    × Goes (line tile recs total l) (l .down) limit biases r (singleOn (line tile recs total l) (l .down) limit biases r limit 0 (view t₀)) x (view t)
+Inv-loop tile recs total l limit biases r s₀ x₀ s x =
+    Held s × (countAt s ≤ 3)
+    × Goes (line tile recs total l) (l .down) limit biases r (singleOn (line tile recs total l) (l .down) limit biases r limit 0 (viewAt s₀)) x (viewAt s)
 
 abbrev μ-loop : tie.MeasureT-loop
-μ-loop tile recs total l limit biases r t₀ x₀ t x = limit - x
+μ-loop tile recs total l limit biases r s₀ x₀ s x = limit - x
 
 loop-holds : tie.Need-loop-holds Inv-loop μ-loop
-loop-holds c = (search needs, simp length-map at (c .before .before .before .good .1 .1 .1 .1 .1 .1 .1 .0 .1 .1 .0 .1 .0 .1), (c .before .before .before .args .limit, omega arith, refl))
+loop-holds c = let s = c .before .before .before .before in (s .pre .3, s .pre .4, (s .args .limit, omega arith, refl))
+
+count-in-requires : tie.Need-count-in-requires Inv-loop μ-loop
+count-in-requires c κs = c .before .before .loop .inv .0 .size
+
+same-length : tie.Need-same-length Inv-loop μ-loop
+same-length c = let l = c .before .before .before .before in l .loop .inv .0 .size ∙ sym (l .before .before .before .before .before .pre .3 .size)
 
 returns : tie.Need-returns Inv-loop μ-loop
-unfolding outcome view
+unfolding outcome
 returns c =
-    let l = c .before .before .before in
-    let a = l .before .before .before .before .args in
-    let n = live-length (l .loop .t) (l .loop .inv .1) (omega arith) in
-    (l .loop .inv .0, sym (enough (line (now (a .tile)) (now (a .recs)) (a .total) (a .l)) (a .l .down) (a .limit) (now (a .biases)) (a .r) _ (l .loop .x) (view (l .loop .t)) (c .before .before .loop-test .taken) (omega arith) (l .loop .inv .2)))
+    let l = c .before .before .before .before in
+    let a = l .before .before .before .before .before .args in
+    let n = how-many (l .loop .s) (l .loop .inv .0) in
+    ((l .loop .inv .0, l .loop .inv .1), sym (enough (line (now (a .tile)) (now (a .recs)) (a .total) (a .l)) (a .l .down) (a .limit) (now (a .biases)) (a .r) _ (l .loop .x) (viewAt (l .loop .s)) (c .before .before .before .loop-test .taken) (omega (arith, n, c .before .count-in .ensures, c .if1 .taken)) (l .loop .inv .2)))
 
 neighbour-at-requires : tie.Need-neighbour-at-requires Inv-loop μ-loop
 neighbour-at-requires c κs = search needs
@@ -39,17 +45,21 @@ neighbour-at-requires c κs = search needs
 enum-known-n : tie.Need-enum-known-n Inv-loop μ-loop
 enum-known-n c = search needs
 
+same-length-2 : tie.Need-same-length-2 Inv-loop μ-loop
+same-length-2 c = let l = c .before .before .before .before .before .before .before .before in l .loop .inv .0 .size ∙ sym (l .before .before .before .before .before .pre .3 .size)
+
 returns-2 : tie.Need-returns-2 Inv-loop μ-loop
-unfolding outcome view
+unfolding outcome
 returns-2 c =
-    let l = c .before .before .before .before .before .before .before in
-    let a = l .before .before .before .before .args in
-    let n = live-length (l .loop .t) (l .loop .inv .1) (omega arith) in
+    let l = c .before .before .before .before .before .before .before .before in
+    let a = l .before .before .before .before .before .args in
+    let n = how-many (l .loop .s) (l .loop .inv .0) in
     let e = c .before .before .before .neighbour-at .ensures in
-    let is = c .before .n .given .1 in (
-      l .loop .inv .0,
+    let is = c .before .n .given .1 in
+    let few : length (viewAt (l .loop .s) .cands) < 2 = omega (arith, n, c .before .before .before .before .before .count-in .ensures, c .before .before .before .before .if1 .left) in (
+      (l .loop .inv .0, l .loop .inv .1),
       rw (some (now (a .tile)) (now (a .recs)) (a .total) (a .l) (l .loop .x) e is)
-          (sym (refuses (line (now (a .tile)) (now (a .recs)) (a .total) (a .l)) (a .l .down) (a .limit) (now (a .biases)) (a .r) _ (l .loop .x) (view (l .loop .t)) _ (c .before .before .before .before .before .before .loop-test .taken) (omega arith) e is (l .loop .inv .2))),
+          (sym (refuses (line (now (a .tile)) (now (a .recs)) (a .total) (a .l)) (a .l .down) (a .limit) (now (a .biases)) (a .r) _ (l .loop .x) (viewAt (l .loop .s)) _ (c .before .before .before .before .before .before .before .loop-test .taken) few e is (l .loop .inv .2))),
     )
 
 enum-known-k : tie.Need-enum-known-k Inv-loop μ-loop
@@ -57,48 +67,52 @@ enum-known-k c = search needs
 
 extend-requires : tie.Need-extend-requires Inv-loop μ-loop
 extend-requires c κs =
-    let l = c .before .before .before .before .before .before .before in
-    let a = l .before .before .before .before .args in
-    let p = l .before .before .before .before .pre in
-    (p .1, p .2, known (now (a .tile)) (now (a .recs)) (a .total) (a .l) (l .loop .x) (c .before .before .before .neighbour-at .ensures) (c .before .k .given .1) .well, omega (arith, c .before .before .before .before .if1 .left))
+    let l = c .before .before .before .before .before .before .before .before .before in
+    let a = l .before .before .before .before .before .args in
+    let p = l .before .before .before .before .before .pre in
+    let k = known (now (a .tile)) (now (a .recs)) (a .total) (a .l) (l .loop .x) (c .before .before .before .before .neighbour-at .ensures) (c .before .before .k .given .1) in
+    (p .1, p .2, k .well, l .loop .inv .0, omega (arith, c .before .before .before .before .before .before .count-in .ensures, c .before .before .before .before .before .if1 .left))
 
 along-requires : tie.Need-along-requires Inv-loop μ-loop
 along-requires c κs = search needs
 
 add-x : tie.Need-add-x Inv-loop μ-loop
 add-x c =
-    let l = c .before .before .before .before .before .before .before .before .before in
-    let a = l .before .before .before .before .args in
-    let far = strides (now (a .tile)) (now (a .recs)) (a .total) (a .l) (l .loop .x) (c .before .before .before .before .before .neighbour-at .ensures) (a .l .down) (c .before .before .before .k .given .1) (c .along .ensures) in
-    omega (arith, far, c .before .before .before .before .before .before .before .before .loop-test .taken, l .before .before .before .before .pre .0 .short)
+    let l = c .before .before .before .before .before .before .before .before .before .before .before .before .before in
+    let a = l .before .before .before .before .before .args in
+    let far = strides (now (a .tile)) (now (a .recs)) (a .total) (a .l) (l .loop .x) (c .before .before .before .before .before .before .before .before .neighbour-at .ensures) (a .l .down) (c .before .before .before .before .before .before .k .given .1) (c .along .ensures) in
+    omega (arith, far, c .before .before .before .before .before .before .before .before .before .before .before .before .loop-test .taken, l .before .before .before .before .before .pre .0 .short)
 
 loop-less : tie.Need-loop-less Inv-loop μ-loop
 loop-less c =
-    let l = c .before .before .before .before .before .before .before .before .before in
-    let a = l .before .before .before .before .args in
-    let far = strides (now (a .tile)) (now (a .recs)) (a .total) (a .l) (l .loop .x) (c .before .before .before .before .before .neighbour-at .ensures) (a .l .down) (c .before .before .before .k .given .1) (c .along .ensures) in
-    omega (arith, far, c .before .before .before .before .before .before .before .before .loop-test .taken, l .before .before .before .before .pre .0 .short)
+    let l = c .before .before .before .before .before .before .before .before .before .before .before .before .before in
+    let a = l .before .before .before .before .before .args in
+    let far = strides (now (a .tile)) (now (a .recs)) (a .total) (a .l) (l .loop .x) (c .before .before .before .before .before .before .before .before .neighbour-at .ensures) (a .l .down) (c .before .before .before .before .before .before .k .given .1) (c .along .ensures) in
+    omega (arith, far, c .before .before .before .before .before .before .before .before .before .before .before .before .loop-test .taken, l .before .before .before .before .before .pre .0 .short)
 
 loop-again : tie.Need-loop-again Inv-loop μ-loop
-unfolding view
 loop-again c =
-    let l = c .before .before .before .before .before .before .before .before .before in
-    let a = l .before .before .before .before .args in
-    let n = live-length (l .loop .t) (l .loop .inv .1) (omega arith) in
-    let far = strides (now (a .tile)) (now (a .recs)) (a .total) (a .l) (l .loop .x) (c .before .before .before .before .before .neighbour-at .ensures) (a .l .down) (c .before .before .before .k .given .1) (c .along .ensures) in
-    let few = c .before .before .before .before .before .before .if1 .left in (
-      c .before .extend .ensures .0,
-      simp length-map at (c .before .extend .ok .1 .1 .0 .1 .0 .1),
-      rw (c .before .extend .ensures .1)
-          (goes (line (now (a .tile)) (now (a .recs)) (a .total) (a .l)) (a .l .down) (a .limit) (now (a .biases)) (a .r) _ (l .loop .x) (view (l .loop .t)) _ (c .before .before .before .before .before .before .before .before .loop-test .taken) (omega arith) (c .before .before .before .before .before .neighbour-at .ensures) (c .before .before .before .k .given .1) (c .along .ensures) (far .0) (l .loop .inv .2)),
+    let l = c .before .before .before .before .before .before .before .before .before .before .before .before .before in
+    let a = l .before .before .before .before .before .args in
+    let far = strides (now (a .tile)) (now (a .recs)) (a .total) (a .l) (l .loop .x) (c .before .before .before .before .before .before .before .before .neighbour-at .ensures) (a .l .down) (c .before .before .before .before .before .before .k .given .1) (c .along .ensures) in
+    let n = how-many (l .loop .s) (l .loop .inv .0) in
+    let few : length (viewAt (l .loop .s) .cands) < 2 = omega (arith, n, c .before .before .before .before .before .before .before .before .before .before .count-in .ensures, c .before .before .before .before .before .before .before .before .before .if1 .left) in
+    let t = c .before .before .before .extend .ensures in (
+      t .0,
+      t .1,
+      rw (t .2)
+          (goes (line (now (a .tile)) (now (a .recs)) (a .total) (a .l)) (a .l .down) (a .limit) (now (a .biases)) (a .r) _ (l .loop .x) (viewAt (l .loop .s)) _ (c .before .before .before .before .before .before .before .before .before .before .before .before .loop-test .taken) few (c .before .before .before .before .before .before .before .before .neighbour-at .ensures) (c .before .before .before .before .before .before .k .given .1) (c .along .ensures) (far .0) (l .loop .inv .2)),
     )
+
+same-length-3 : tie.Need-same-length-3 Inv-loop μ-loop
+same-length-3 c = let l = c .before in l .loop .inv .0 .size ∙ sym (l .before .before .before .before .before .pre .3 .size)
 
 returns-3 : tie.Need-returns-3 Inv-loop μ-loop
 unfolding outcome
 returns-3 c =
     let l = c .before in
-    let a = l .before .before .before .before .args in
-    (l .loop .inv .0, sym (ends (line (now (a .tile)) (now (a .recs)) (a .total) (a .l)) (a .l .down) (a .limit) (now (a .biases)) (a .r) _ (l .loop .x) (view (l .loop .t)) (c .loop-test .left) (l .loop .inv .2)))
+    let a = l .before .before .before .before .before .args in
+    ((l .loop .inv .0, l .loop .inv .1), sym (ends (line (now (a .tile)) (now (a .recs)) (a .total) (a .l)) (a .l .down) (a .limit) (now (a .biases)) (a .r) _ (l .loop .x) (viewAt (l .loop .s)) (c .loop-test .left) (l .loop .inv .2)))
 
 pub single-along-spec : {M : Type 1} → statement M
 single-along-spec =
@@ -107,9 +121,12 @@ single-along-spec =
     Inv-loop
     μ-loop
     loop-holds
+    count-in-requires
+    same-length
     returns
     neighbour-at-requires
     enum-known-n
+    same-length-2
     returns-2
     enum-known-k
     extend-requires
@@ -117,4 +134,5 @@ single-along-spec =
     add-x
     loop-less
     loop-again
+    same-length-3
     returns-3)

@@ -1,10 +1,15 @@
 -- `finds::whole::put_found` meets its contract.
 -- Assumes nothing.
-use lib.ListN.{length-map}
+use Rattle.stack.specs.Numbers.{foundAt}
+use Rattle.stack.proofs.Helds.{stack-long}
+use Rattle.stack.proofs.Adds.{live-length}
 use Rattle.finds.proofs.Laid.{found-laid}
 use borrow.Author.Needs.{needs}
 use Rattle.finds.proofs.whole.put_found.Statement.{statement}
 use Rattle.finds.proofs.whole.put_found.Tie as tie
+
+count-in-requires : tie.Need-count-in-requires
+count-in-requires c κs = search needs
 
 cast-out : tie.Need-cast-out
 cast-out c = search needs
@@ -19,8 +24,12 @@ same-length : tie.Need-same-length
 same-length c = search needs
 
 returns : tie.Need-returns
-returns c = let s = c .before .before in found-laid (s .args .r) (s .pre .2) (simp length-map at (s .good .1 .0 .1 .1 .1 .1 .0 .1 .1 .0 .1 .0 .1)) (s .pre .1) _
+returns c =
+    let s = c .before .before .before in
+    let l = s .args .s .now in
+    found-laid (s .args .r) (foundAt l) (s .pre .2) (live-length (foundAt l) (stack-long l) (s .pre .1 .room)) _ (c .count-in .ensures)
 
 pub put-found-spec : {M : Type 1} → statement M
 put-found-spec =
-    tie.close (tie.spec cast-out slice-write-out slice-write-out-2 same-length returns)
+    tie.close
+    (tie.spec count-in-requires cast-out slice-write-out slice-write-out-2 same-length returns)

@@ -6,10 +6,10 @@ use Prim.Native.Nat.{ℕ}
 use mir.Syntax.{w16}
 use Rattle.ground.proofs.Bits.{kept}
 use Rattle.vector.specs.Hint.{distance}
-use Rattle.frame.specs.Description.{heldAt, ofHints}
-use Rattle.frame.specs.Distances.{fromCurrent}
+use Rattle.hints.specs.Description.{heldAt, ofHints}
+use Rattle.hints.specs.Distances.{fromCurrent}
 use Rattle.frame.specs.Mfmv.{far, towards, refToRef, mfmvOf}
-use Rattle.frame.proofs.Described.{hints, hint-fits, lent-hint}
+use Rattle.hints.proofs.Described.{hints, hint-fits, lent-hint}
 use borrow.Author.Needs.{needs}
 use Rattle.frame.proofs.mfmv.mfmv_of.Statement.{statement}
 use Rattle.frame.proofs.mfmv.mfmv_of.Tie as tie

@@ -1,11 +1,11 @@
 -- `frame::setup::frame_of` meets its contract.
 -- Assumes nothing.
 use native.Mathlib.Omega.{arith}
-use Rattle.frame.proofs.Described.{accepted-limits, accepted-hints}
-use Rattle.frame.proofs.Selections.{slot-fits}
+use Rattle.hints.proofs.Described.{accepted-limits, accepted-hints}
+use Rattle.hints.proofs.Selections.{slot-fits}
 use Rattle.frame.specs.Record.{frameOf}
 use Rattle.frame.specs.Mfmv.{slotOf}
-use Rattle.frame.specs.Selection.{asSelection}
+use Rattle.hints.specs.Selection.{asSelection}
 use borrow.Author.Needs.{needs}
 use Rattle.frame.proofs.setup.frame_of.Statement.{statement}
 use Rattle.frame.proofs.setup.frame_of.Tie as tie

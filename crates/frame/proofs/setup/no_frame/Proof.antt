@@ -1,7 +1,7 @@
 -- `frame::setup::no_frame` meets its contract.
 -- Assumes nothing.
 use Rattle.frame.specs.Record.{noFrame}
-use Rattle.frame.specs.Sizes.{sizesOf, eighths, strideOf, partsOf}
+use Rattle.extent.specs.Sizes.{sizesOf, eighths, strideOf, partsOf}
 use borrow.Author.Needs.{needs}
 use Rattle.frame.proofs.setup.no_frame.Statement.{statement}
 use Rattle.frame.proofs.setup.no_frame.Tie as tie

@@ -5,7 +5,7 @@ use lib.Dec.{ltb}
 use lib.ListN.{getD}
 use Rattle.ground.specs.Pick.{pick}
 use Rattle.frame.specs.Mfmv.{idle}
-use Rattle.frame.proofs.Described.{lent-hinted}
+use Rattle.hints.proofs.Described.{lent-hinted}
 use Rattle.frame.proofs.Mfmvs.{lent-mfmv}
 use borrow.Author.Needs.{needs}
 use Rattle.frame.proofs.setup.slot_of.Statement.{statement}

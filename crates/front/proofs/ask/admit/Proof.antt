@@ -2,7 +2,7 @@
 -- Assumes nothing.
 use native.Mathlib.Omega.{arith}
 use borrow.Author.Tests.{le-ltb, lt-ltb, eq-eqb, ne-eqb, not-true, not-false}
-use Rattle.frame.proofs.Sizing.{fits}
+use Rattle.extent.proofs.Sizing.{fits}
 use Rattle.rows.proofs.Parts.{records-fit}
 use Rattle.layout.specs.FrameBytes.{frameAt}
 use Rattle.layout.proofs.Read.{sizes-well}

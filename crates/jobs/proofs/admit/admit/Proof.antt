@@ -6,8 +6,9 @@ use borrow.Author.Tests.{not-true, not-false}
 use denote.Ref.{now}
 use Rattle.ground.proofs.Picks.{pick-true, pick-false}
 use Rattle.loading.specs.Load.{lent}
+use Rattle.job.proofs.Batches.{formed}
 use Rattle.jobs.specs.Admit.{handed}
-use Rattle.jobs.proofs.Admits.{formed, areas, ill-formed, job-refuses, by-windows}
+use Rattle.jobs.proofs.Admits.{areas, ill-formed, job-refuses, by-windows}
 use borrow.Author.Needs.{needs}
 use Rattle.jobs.proofs.admit.admit.Statement.{statement}
 use Rattle.jobs.proofs.admit.admit.Tie as tie

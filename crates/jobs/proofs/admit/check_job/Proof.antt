@@ -3,8 +3,7 @@
 use denote.Ref.{now}
 use Rattle.loading.specs.Load.{lent}
 use Rattle.jobs.specs.Admit.{handed}
-use Rattle.jobs.proofs.Fronts.{front-told}
-use Rattle.jobs.proofs.Admits.{front-answers, to-check, reads-answer}
+use Rattle.jobs.proofs.Admits.{front-told, front-answers, to-check, reads-answer}
 use borrow.Author.Needs.{needs}
 use Rattle.jobs.proofs.admit.check_job.Statement.{statement}
 use Rattle.jobs.proofs.admit.check_job.Tie as tie

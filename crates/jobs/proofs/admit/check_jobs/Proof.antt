@@ -7,7 +7,7 @@ use borrow.Author.Needs.{needs}
 use Rattle.ground.specs.Span.{firstOf}
 use Rattle.ground.proofs.Spans.{asked, ask-on, ask-stops}
 use Rattle.loading.specs.Load.{lent}
-use Rattle.jobs.specs.Job.{jobAt}
+use Rattle.job.specs.Job.{jobAt}
 use Rattle.jobs.specs.Admit.{handed, jobAnswer}
 use Rattle.jobs.proofs.admit.check_jobs.Statement.{statement}
 use Rattle.jobs.proofs.admit.check_jobs.Tie as tie

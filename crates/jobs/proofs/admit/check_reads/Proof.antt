@@ -8,7 +8,8 @@ use borrow.Author.Needs.{needs}
 use Rattle.ground.specs.Span.{firstOf}
 use Rattle.ground.proofs.Spans.{asked, ask-on, ask-stops}
 use Rattle.loading.specs.Load.{lent}
-use Rattle.jobs.specs.Job.{workRead, jobReads}
+use Rattle.work.specs.Work.{workRead}
+use Rattle.jobs.specs.Admit.{jobReads}
 use Rattle.jobs.proofs.admit.check_reads.Statement.{statement}
 use Rattle.jobs.proofs.admit.check_reads.Tie as tie
 

@@ -4,8 +4,9 @@ use mathlib.Core.Path.{sym, _∙_}
 use borrow.Author.Tests.{not-true, not-false}
 use denote.Ref.{now}
 use Rattle.loading.specs.Load.{lent}
+use Rattle.job.proofs.Fronts.{front}
 use Rattle.jobs.specs.Admit.{handed}
-use Rattle.jobs.proofs.Fronts.{front, front-told}
+use Rattle.jobs.proofs.Admits.{front-told}
 use Rattle.jobs.proofs.Steps.{ill-kind, front-stops, is-done, row-answers, to-read}
 use borrow.Author.Needs.{needs}
 use Rattle.jobs.proofs.step.step_number.Statement.{statement}

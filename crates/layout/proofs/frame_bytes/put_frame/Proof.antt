@@ -5,10 +5,10 @@ use mathlib.Core.List.{[], _∷_}
 use Prim.Native.Nat.{_%_}
 use Rattle.ground.specs.Little.{fours}
 use Rattle.frame.specs.Mfmv.{slotOf}
-use Rattle.frame.specs.Selection.{asSelection}
+use Rattle.hints.specs.Selection.{asSelection}
 use Rattle.frame.specs.Record.{frameOf}
-use Rattle.frame.proofs.Described.{accepted-limits, accepted-hints}
-use Rattle.frame.proofs.Selections.{slot-fits}
+use Rattle.hints.proofs.Described.{accepted-limits, accepted-hints}
+use Rattle.hints.proofs.Selections.{slot-fits}
 use Rattle.layout.specs.FrameBytes.{sizeNumbers, hintBytes, hintsBytes, mfmvsBytes, frameBytes}
 use Rattle.layout.proofs.Pieces.{as-one}
 use borrow.Author.Needs.{needs}

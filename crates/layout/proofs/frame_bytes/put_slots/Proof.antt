@@ -4,7 +4,7 @@ use mathlib.Core.Path.{_≡_, ap, _∙_}
 use mathlib.Core.List.{[], _∷_}
 use lib.ListN.{length, getD}
 use Rattle.frame.specs.Mfmv.{slotIn}
-use Rattle.frame.proofs.Described.{lent-hinted}
+use Rattle.hints.proofs.Described.{lent-hinted}
 use Rattle.frame.proofs.Mfmvs.{lent-mfmv}
 use Rattle.layout.specs.FrameBytes.{offsetsAt, mfmvBytes, mfmvsBytes}
 use Rattle.layout.proofs.Pieces.{as-one}

@@ -9,7 +9,7 @@ use lib.ListN.{length}
 use Rattle.ground.specs.Put.{put}
 use Rattle.ground.specs.Little.{fourBytes, fours}
 use Rattle.ground.proofs.Products.{row-fits}
-use Rattle.rows.specs.Table.{tab}
+use Rattle.ground.specs.Tab.{tab}
 use Rattle.layout.proofs.Entries.{rows-on, rows-done}
 use borrow.Author.Needs.{needs}
 use Rattle.layout.proofs.tile_bytes.put_rows.Statement.{statement}

@@ -1,7 +1,7 @@
 -- `layout::tile_bytes::put_tile` meets its contract.
 -- Assumes nothing.
 use native.Mathlib.Omega.{arith}
-use Rattle.frame.proofs.Sizing.{fits}
+use Rattle.extent.proofs.Sizing.{fits}
 use Rattle.rows.proofs.Parts.{start-fits, rows-fit}
 use Rattle.layout.proofs.Read.{sizes-accepted}
 use Rattle.layout.proofs.Entries.{tile-laid}

@@ -3,9 +3,9 @@
 use Rattle.rows.proofs.Parts.{blocks-fit}
 use Rattle.loading.proofs.Usings.{able-fields}
 use borrow.Author.Tests.{not-true, not-false, lt-ltb, le-ltb}
-use Rattle.frame.proofs.Sizing.{fits, saved-most}
+use Rattle.extent.proofs.Sizing.{fits, saved-most}
 use Rattle.frame.proofs.Records.{frame-sizes}
-use Rattle.frame.specs.Sizes.{savedCells, projectedCells}
+use Rattle.extent.specs.Sizes.{savedCells, projectedCells}
 use Rattle.loading.specs.Load.{loadFront}
 use native.Mathlib.Omega.{arith}
 use mathlib.Core.Path.{sym, _∙_}

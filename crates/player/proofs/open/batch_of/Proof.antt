@@ -1,6 +1,6 @@
 -- `player::open::batch_of` meets its contract.
 -- Assumes nothing.
-use Rattle.rows.specs.Table.{tab}
+use Rattle.ground.specs.Tab.{tab}
 use Rattle.player.specs.Opened.{batchOf}
 use borrow.Author.Needs.{needs}
 use Rattle.player.proofs.open.batch_of.Statement.{statement}

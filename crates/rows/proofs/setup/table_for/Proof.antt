@@ -1,7 +1,7 @@
 -- `rows::setup::table_for` meets its contract.
 -- Assumes nothing.
 use native.Mathlib.Omega.{arith}
-use Rattle.frame.proofs.Sizing.{fits}
+use Rattle.extent.proofs.Sizing.{fits}
 use Rattle.rows.specs.Setup.{tableFor}
 use Rattle.rows.proofs.Parts.{start-fits, rows-fit}
 use borrow.Author.Needs.{needs}

@@ -3,8 +3,8 @@
 use mathlib.Core.Path.{sym, _∙_}
 use native.Mathlib.Omega.{arith}
 use borrow.Author.Tests.{le-ltb, lt-ltb, not-true, not-false}
-use Rattle.frame.specs.Sizes.{savedCells}
-use Rattle.frame.proofs.Sizing.{fits, saved-most}
+use Rattle.extent.specs.Sizes.{savedCells}
+use Rattle.extent.proofs.Sizing.{fits, saved-most}
 use Rattle.frame.proofs.Records.{frame-sizes}
 use Rattle.rows.proofs.Parts.{records-fit}
 use Rattle.saving.specs.Save.{saveFront}

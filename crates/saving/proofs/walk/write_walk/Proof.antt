@@ -9,7 +9,7 @@ use lib.ListN.{length, getD}
 use denote.Ref.{now}
 use Rattle.ground.specs.Put.{put}
 use Rattle.cells.specs.declared.block.Block.{Block}
-use Rattle.frame.specs.declared.distances.RefHint.{RefHint}
+use Rattle.hints.specs.declared.distances.RefHint.{RefHint}
 use Rattle.frame.specs.Record.{noHint}
 use Rattle.saving.specs.declared.area.Strip.{Strip}
 use Rattle.saving.specs.declared.choose.Width.{Width}

@@ -14,7 +14,7 @@ depth-requires c κs = search needs
 
 returns : tie.Need-returns
 unfolding singleWhere outcome
-returns c = (c .before .before .before .before .before .pre .4, rw (← c .before .depth .ensures, eq-eqb _ _ (c .if1 .taken)))
+returns c = let p = c .before .before .before .before .before .before .pre in ((p .4, p .5), rw (← c .before .depth .ensures, eq-eqb _ _ (c .if1 .taken)))
 
 extra-limit-requires : tie.Need-extra-limit-requires
 extra-limit-requires c κs = search needs
@@ -24,14 +24,18 @@ near-line-requires c κs = search needs
 
 single-along-requires : tie.Need-single-along-requires
 single-along-requires c κs =
-    let f = c .before .before .before .before .before .before .before in
-    (near-lent (f .args .down) (f .args .b) (f .pre .0) (f .pre .1) (c .near-line .ensures) (c .before .extra-limit .ensures .1), f .pre .2, f .pre .3, f .pre .4)
+    let f = c .before .before .before .before .before .before .before .before .before in
+    let p = f .pre in
+    (near-lent (f .args .down) (f .args .b) (p .0) (p .1) (c .before .near-line .ensures) (c .before .before .extra-limit .ensures .1), p .2, p .3, p .4, p .5)
+
+same-length : tie.Need-same-length
+same-length c = search needs
 
 returns-2 : tie.Need-returns-2
 returns-2 c =
-    let a = c .before .before .before .before .before .before .before .before .args in
-    let r = c .single-along .ensures in
-    (r .0, single-is _ (a .b) (a .down) _ (c .before .near-line .ensures) (c .before .before .extra-limit .ensures .0) (λ z. c .before .before .before .if1 .left (c .before .before .before .before .depth .ensures ∙ z)) _ _ (r .1))
+    let a = c .before .before .before .before .before .before .before .before .before .before .before .before .args in
+    let r = c .before .before .single-along .ensures in
+    (r .0, single-is _ (a .b) (a .down) _ (c .before .before .before .before .near-line .ensures) (c .before .before .before .before .before .extra-limit .ensures .0) (λ z. c .before .before .before .before .before .before .if1 .left (c .before .before .before .before .before .before .before .depth .ensures ∙ z)) _ _ (r .1))
 
 pub single-where-spec : {M : Type 1} → statement M
 single-where-spec =
@@ -42,4 +46,5 @@ single-where-spec =
     extra-limit-requires
     near-line-requires
     single-along-requires
+    same-length
     returns-2)

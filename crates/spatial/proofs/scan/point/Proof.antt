@@ -2,6 +2,7 @@
 -- Assumes nothing.
 use native.Mathlib.Omega.{arith}
 use denote.Ref.{now}
+use Rattle.stack.specs.Numbers.{foundAt}
 use Rattle.layout.specs.TileBytes.{tileAt}
 use Rattle.neighbours.proofs.Known.{told, is-some}
 use Rattle.spatial.specs.Scan.{outcome, pointOf}
@@ -9,8 +10,6 @@ use Rattle.spatial.proofs.Scans.{not-found}
 use borrow.Author.Needs.{needs}
 use Rattle.spatial.proofs.scan.point.Statement.{statement}
 use Rattle.spatial.proofs.scan.point.Tie as tie
-use Rattle.neighbours.proofs.read.read_at.Reads as read-at-reads
-use Rattle.spatial.proofs.take.add_spatial.Reads as add-spatial-reads
 
 read-at-requires : tie.Need-read-at-requires
 read-at-requires c κs = search needs
@@ -27,19 +26,22 @@ add-spatial-requires c κs = search needs
 returns : tie.Need-returns
 unfolding pointOf
 returns c =
-    let a = c .before .before .before .before .before .before .args in
+    let f = c .before .before .before .before .before .before .before in
+    let a = f .args in
     let e = c .before .before .before .read-at .ensures in
     let n = c .before .n .given .1 in
     let s = is-some (told (tileAt (now (a .tile)) .rows) (now (a .recs)) (a .total) (a .e) (a .col)) e n in
-    ((search needs, omega arith), rw (← e, n) (not-found _ s))
+    ((f .pre .2, omega arith), rw (← e, n) (not-found _ (foundAt (a .s .now)) s))
+
+same-length : tie.Need-same-length
+same-length c = search needs
 
 returns-2 : tie.Need-returns-2
 unfolding pointOf outcome
 returns-2 c =
-    let t = c .add-spatial .ensures in
-    ((t .0, t .2), rw (← c .before .before .before .before .read-at .ensures, c .before .before .k .given .1, t .1))
+    let t = c .before .before .add-spatial .ensures in
+    ((t .0, t .2), rw (← c .before .before .before .before .before .before .before .read-at .ensures, c .before .before .before .before .before .k .given .1, t .1))
 
 pub point-spec : {M : Type 1} → statement M
 point-spec =
-    tie.close
-    (tie.spec read-at-requires enum-known-n enum-known-k add-spatial-requires returns returns-2)
+    tie.close (tie.spec read-at-requires enum-known-n enum-known-k add-spatial-requires returns same-length returns-2)

@@ -1,36 +1,61 @@
 -- `stack::add::add_new` meets its contract.
 -- Assumes nothing.
-use lib.ListN.{length-map}
+use mathlib.Core.Path.{ap, _∙_}
+use native.Mathlib.Omega.{arith}
 use borrow.Author.Needs.{needs}
-use Rattle.stack.specs.Stack.{live, view}
+use Rattle.stack.specs.Stack.{view, appended}
+use Rattle.stack.proofs.Helds.{FitsPair, holds}
 use Rattle.stack.proofs.Adds.{new, old}
 use Rattle.stack.proofs.add.add_new.Statement.{statement}
 use Rattle.stack.proofs.add.add_new.Tie as tie
 
-find-requires : tie.Need-find-requires
-find-requires c κs = search needs
+pair-bits-requires : tie.Need-pair-bits-requires
+pair-bits-requires c κs = search needs
 
-mul-t7 : tie.Need-mul-t7
-mul-t7 c = search needs
+seek-requires : tie.Need-seek-requires
+seek-requires c κs = search needs
 
-element-set-from-t : tie.Need-element-set-from-t
-element-set-from-t c = search needs
+count-in-requires : tie.Need-count-in-requires
+count-in-requires c κs = search needs
 
-add-t : tie.Need-add-t
-add-t c = search needs
+lay-requires : tie.Need-lay-requires
+lay-requires c κs = search needs
+
+same-length : tie.Need-same-length
+same-length c = search needs
 
 returns : tie.Need-returns
-unfolding live view
+unfolding appended
 returns c =
-    let f = c .before .before in
-    let s = f .before in
-    (search needs, new (s .args .s) (simp length-map at (s .good .0 .1 .1 .0 .1 .0 .1)) (search needs) (s .args .p) (f .find .ensures) (c .if1 .taken) (search needs))
+    let t = c .before .before .lay .ensures in
+    let g = c .before .before .before .before .before .before .before in
+    let s = g .before .before .before .before in
+    let f : FitsPair (s .args .p) = record { first = record { y = search needs; x = search needs }; second = record { y = search needs; x = search needs } } in
+    let e = holds (s .args .p) f (g .before .before .pair-bits .ensures) in
+    let n = new (s .args .s .now) (s .pre .0) _ (g .seek .ensures) (search needs) (s .pre .1) in
+    (t .0, rw (t .1) (omega arith), rw (← e) (ap view (t .1) ∙ n))
+
+same-length-2 : tie.Need-same-length-2
+same-length-2 c = search needs
 
 returns-2 : tie.Need-returns-2
 returns-2 c =
-    let f = c .before .before in
-    let s = f .before in
-    (search needs, old (s .args .s) (simp length-map at (s .good .0 .1 .1 .0 .1 .0 .1)) (search needs) (s .args .p) (f .find .ensures) (c .if1 .left))
+    let g = c .before .before .before in
+    let s = g .before .before .before .before in
+    let f : FitsPair (s .args .p) = record { first = record { y = search needs; x = search needs }; second = record { y = search needs; x = search needs } } in
+    let e = holds (s .args .p) f (g .before .before .pair-bits .ensures) in
+    let n = c .before .count-in .ensures in
+    (s .pre .0, omega arith, rw (← e) (old (s .args .s .now) (s .pre .0) _ (g .seek .ensures) (λ q. c .if1 .left (omega arith))))
 
 pub add-new-spec : {M : Type 1} → statement M
-add-new-spec = tie.close (tie.spec find-requires mul-t7 element-set-from-t add-t returns returns-2)
+add-new-spec =
+    tie.close
+    (tie.spec
+    pair-bits-requires
+    seek-requires
+    count-in-requires
+    lay-requires
+    same-length
+    returns
+    same-length-2
+    returns-2)

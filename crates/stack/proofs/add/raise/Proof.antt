@@ -1,46 +1,55 @@
 -- `stack::add::raise` meets its contract.
 -- Assumes nothing.
-use mathlib.Core.Path.{_≡_, ap, refl}
+use mathlib.Core.Path.{refl}
 use Prim.Native.Nat.{_-_, _≤_}
 use native.Mathlib.Omega.{arith}
-use lib.ListN.{length, length-map}
 use borrow.Author.Needs.{needs}
-use Rattle.stack.specs.declared.candidate.Candidate.{Candidate}
-use Rattle.stack.specs.Stack.{live, heavier, raised, view}
+use Rattle.stack.specs.Stack.{live, heavier, weightier, raised, view}
+use Rattle.stack.specs.Numbers.{foundAt, Held}
 use Rattle.stack.proofs.Counts.{heft-raised}
-use Rattle.stack.proofs.Adds.{live-length, weight-at}
-use Rattle.stack.proofs.Maps.{Turned, starts, as-was, turns, same-count, ends, live-of}
+use Rattle.stack.proofs.Helds.{stack-long}
+use Rattle.stack.proofs.Adds.{live-length, weight-kept, gains}
+use Rattle.stack.proofs.Maps.{Turned, starts, turns, same-count, ends, live-of}
 use Rattle.stack.proofs.add.raise.Statement.{statement}
 use Rattle.stack.proofs.add.raise.Tie as tie
 
 abbrev Inv-loop : tie.InvT-loop
-Inv-loop s t₀ i₀ t i = (i ≤ s .count) × Turned (heavier 640) s i t
+Inv-loop s₀ n i₀ s i = (i ≤ n) × Held s × Turned (heavier 640) (foundAt s₀) i (foundAt s)
 
 abbrev μ-loop : tie.MeasureT-loop
-μ-loop s t₀ i₀ t i = s .count - i
+μ-loop s₀ n i₀ s i = n - i
+
+count-in-requires : tie.Need-count-in-requires Inv-loop μ-loop
+count-in-requires c κs = c .before .before .pre .0 .size
 
 loop-holds : tie.Need-loop-holds Inv-loop μ-loop
-loop-holds c = (search needs, starts (heavier 640) (c .args .s))
+loop-holds c = let s = c .before .before .before in (search needs, s .pre .0, starts (heavier 640) (foundAt (s .args .s .now)))
 
-mul-c : tie.Need-mul-c Inv-loop μ-loop
-mul-c c = search needs
+add-s : tie.Need-add-s Inv-loop μ-loop
+add-s c = record { fits = omega (arith, c .before .before .count-in .ensures, c .before .before .before .before .before .pre .0 .room) }
 
-element-copy-out-c : tie.Need-element-copy-out-c Inv-loop μ-loop
-element-copy-out-c c = search needs
+mul-s : tie.Need-mul-s Inv-loop μ-loop
+mul-s c = record { fits = omega (arith, c .before .before .count-in .ensures, c .before .before .before .before .before .pre .0 .room) }
 
-add-c : tie.Need-add-c Inv-loop μ-loop
-add-c c =
-    let l = c .before .before .before .before in
-    let s = l .before in
-    let e = ap (λ (x : Candidate). x .weight) (as-was (l .loop .inv .1)) in
-    let w = weight-at (s .args .s) (simp length-map at (s .good .0 .1 .1 .0 .1 .0 .1)) (search needs) (l .loop .i) (search needs) in
+slice-read-s : tie.Need-slice-read-s Inv-loop μ-loop
+slice-read-s c =
+    let l = c .before .before in
+    let p = l .before .before .before .before .pre in
+    omega (arith, l .before .count-in .ensures, l .loop .inv .1 .size, p .0 .room)
+
+add-s-2 : tie.Need-add-s-2 Inv-loop μ-loop
+add-s-2 c =
+    let l = c .before .before in
+    let s = l .before .before .before .before in
+    let n = l .before .count-in .ensures in
+    let w = weight-kept (s .args .s .now) (s .pre .0) (l .loop .s) (l .loop .i) (l .loop .inv .2) (omega arith) in
     record { fits = omega arith }
 
-mul-c-2 : tie.Need-mul-c-2 Inv-loop μ-loop
-mul-c-2 c = search needs
-
-element-set-from-c : tie.Need-element-set-from-c Inv-loop μ-loop
-element-set-from-c c = search needs
+slice-write-s : tie.Need-slice-write-s Inv-loop μ-loop
+slice-write-s c =
+    let l = c .before .before in
+    let p = l .before .before .before .before .pre in
+    omega (arith, l .before .count-in .ensures, l .loop .inv .1 .size, p .0 .room)
 
 add-i : tie.Need-add-i Inv-loop μ-loop
 add-i c = search needs
@@ -49,21 +58,31 @@ loop-less : tie.Need-loop-less Inv-loop μ-loop
 loop-less c = search needs
 
 loop-again : tie.Need-loop-again Inv-loop μ-loop
+unfolding weightier
 loop-again c =
-    let l = c .before .before .before .before in
-    let s = l .before in
-    let n : length (s .args .s .stack) ≡ 8 = simp length-map at (s .good .0 .1 .1 .0 .1 .0 .1) in
-    (search needs, turns (l .loop .inv .1) (omega arith) refl)
+    let l = c .before .before in
+    let s = l .before .before .before .before in
+    let n = l .before .count-in .ensures in
+    let k = stack-long (s .args .s .now) in
+    let r = s .pre .0 .room in
+    let g = gains (l .loop .s) (l .loop .inv .1) (l .loop .i) 640 (omega arith) in
+    (search needs, g .0, rw (g .1) (turns (l .loop .inv .2) (omega arith) refl))
+
+same-length : tie.Need-same-length Inv-loop μ-loop
+same-length c = let l = c .before in omega (arith, l .loop .inv .1 .size, l .before .before .before .before .pre .0 .size)
 
 returns : tie.Need-returns Inv-loop μ-loop
 unfolding raised view
 returns c =
-    let l = c .before .before in
-    let s = l .before in
-    let n : length (s .args .s .stack) ≡ 8 = simp length-map at (s .good .0 .1 .1 .0 .1 .0 .1) in
-    let v = ends (l .loop .inv .1) (omega arith) (omega arith) in
-    let k = live-length (s .args .s) n (s .pre .0) in
-    (same-count (l .loop .inv .1), v, rw (live-of (s .args .s) (l .loop .t) v) (heft-raised (live (s .args .s)) (omega arith)))
+    let l = c .before in
+    let s = l .before .before .before .before in
+    let f = foundAt (s .args .s .now) in
+    let n = l .before .count-in .ensures in
+    let m = stack-long (s .args .s .now) in
+    let r = s .pre .0 .room in
+    let v = ends (l .loop .inv .2) (omega arith) (omega arith) in
+    let k = live-length f m r in
+    (l .loop .inv .1, same-count (l .loop .inv .2), v, rw (live-of f (foundAt (l .loop .s)) v) (heft-raised (live f) (omega arith)))
 
 pub raise-spec : {M : Type 1} → statement M
 raise-spec =
@@ -71,13 +90,15 @@ raise-spec =
     (tie.spec
     Inv-loop
     μ-loop
+    count-in-requires
     loop-holds
-    mul-c
-    element-copy-out-c
-    add-c
-    mul-c-2
-    element-set-from-c
+    add-s
+    mul-s
+    slice-read-s
+    add-s-2
+    slice-write-s
     add-i
     loop-less
     loop-again
+    same-length
     returns)

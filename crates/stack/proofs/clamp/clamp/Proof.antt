@@ -1,40 +1,52 @@
 -- `stack::clamp::clamp` meets its contract.
 -- Assumes nothing.
-use mathlib.Core.Path.{_≡_, ap}
+use mathlib.Core.Path.{_≡_, sym, _∙_}
 use Prim.Native.Nat.{_-_, _≤_}
 use native.Mathlib.Omega.{arith}
-use lib.ListN.{length, getD, length-map}
 use borrow.Author.Needs.{needs}
-use Rattle.cells.specs.declared.block.MvPair.{MvPair}
-use Rattle.stack.specs.Stack.{nobody, view}
+use Rattle.stack.specs.Stack.{view}
+use Rattle.stack.specs.Numbers.{foundAt, Held}
 use Rattle.stack.specs.Clamp.{clampedOne, clamped}
-use Rattle.stack.proofs.Maps.{Turned, starts, turns, same-count, ends}
+use Rattle.stack.proofs.Helds.{stack-long}
+use Rattle.stack.proofs.Maps.{Turned, starts, same-count, ends}
+use Rattle.stack.proofs.Clips.{clamps}
 use Rattle.stack.proofs.clamp.clamp.Statement.{statement}
 use Rattle.stack.proofs.clamp.clamp.Tie as tie
 
 abbrev Inv-loop : tie.InvT-loop
-Inv-loop s r t₀ i₀ t i = (i ≤ s .count) × Turned (clampedOne r) s i t
+Inv-loop s₀ r n i₀ s i = (i ≤ n) × (n ≤ 8) × Held s × Turned (clampedOne r) (foundAt s₀) i (foundAt s)
 
 abbrev μ-loop : tie.MeasureT-loop
-μ-loop s r t₀ i₀ t i = s .count - i
+μ-loop s₀ r n i₀ s i = n - i
+
+count-in-requires : tie.Need-count-in-requires Inv-loop μ-loop
+count-in-requires c κs = search needs
 
 loop-holds : tie.Need-loop-holds Inv-loop μ-loop
-loop-holds c = (search needs, starts (clampedOne (c .args .r)) (c .args .s))
+loop-holds c =
+    let s = c .before .before .before in
+    (search needs, omega (arith, c .count-in .ensures, s .pre .room), s .pre, starts (clampedOne (s .args .r)) (foundAt (s .args .s .now)))
 
-mul-c : tie.Need-mul-c Inv-loop μ-loop
-mul-c c = search needs
+mul-pair-in : tie.Need-mul-pair-in Inv-loop μ-loop
+mul-pair-in c = search needs
 
-element-copy-out-c : tie.Need-element-copy-out-c Inv-loop μ-loop
-element-copy-out-c c = search needs
+slice-read-pair-in : tie.Need-slice-read-pair-in Inv-loop μ-loop
+slice-read-pair-in c = search needs
+
+pair-in-requires : tie.Need-pair-in-requires Inv-loop μ-loop
+pair-in-requires c κs = search needs
 
 clamp-pair-requires : tie.Need-clamp-pair-requires Inv-loop μ-loop
 clamp-pair-requires c κs = search needs
 
-mul-t8 : tie.Need-mul-t8 Inv-loop μ-loop
-mul-t8 c = search needs
+pair-bits-requires : tie.Need-pair-bits-requires Inv-loop μ-loop
+pair-bits-requires c κs = search needs
 
-element-set-from-t : tie.Need-element-set-from-t Inv-loop μ-loop
-element-set-from-t c = search needs
+mul-s : tie.Need-mul-s Inv-loop μ-loop
+mul-s c = search needs
+
+slice-write-s : tie.Need-slice-write-s Inv-loop μ-loop
+slice-write-s c = search needs
 
 add-i : tie.Need-add-i Inv-loop μ-loop
 add-i c = search needs
@@ -44,22 +56,29 @@ loop-less c = search needs
 
 loop-again : tie.Need-loop-again Inv-loop μ-loop
 loop-again c =
-    let l = c .before .before .before .before in
-    let s = l .before in
-    let n : length (s .args .s .stack) ≡ 8 = simp length-map at (s .good .0 .1 .1 .0 .1 .0 .1) in
-    let w = getD (l .loop .t .stack) (l .loop .i) nobody .weight in (
-      search needs,
-      turns (l .loop .inv .1) (omega arith) (ap (λ (p : MvPair). record { mv = p; weight = w }) (c .clamp-pair .ensures)),
-    )
+    let p = c .before in
+    let q = p .before in
+    let l = q .before .before .before in
+    let s = l .before .before .before .before in
+    let a = p .clamp-pair .ok .1 .1 .0 in
+    let b = p .clamp-pair .ok .1 .1 .1 .0 in
+    let t = clamps (s .args .r) (s .args .s .now) (l .loop .s) (l .loop .i) (l .loop .inv .2) (search needs) (l .loop .inv .3) (q .pair-in .ensures)
+    (p .clamp-pair .ensures) (record { first = record { y = a .1 .1 .0 .1; x = a .1 .1 .1 .0 .1 }; second = record { y = b .1 .1 .0 .1; x = b .1 .1 .1 .0 .1 } })
+    (c .pair-bits .ensures) in
+    (search needs, l .loop .inv .1, t .0, t .1)
+
+same-length : tie.Need-same-length Inv-loop μ-loop
+same-length c = c .before .loop .inv .2 .size ∙ sym (c .before .before .before .before .before .pre .size)
 
 returns : tie.Need-returns Inv-loop μ-loop
 unfolding clamped view
 returns c =
-    let l = c .before .before in
-    let s = l .before in
-    let n : length (s .args .s .stack) ≡ 8 = simp length-map at (s .good .0 .1 .1 .0 .1 .0 .1) in (
-      same-count (l .loop .inv .1),
-      ends (l .loop .inv .1) (omega arith) (omega arith),
+    let l = c .before in
+    let s = l .before .before .before .before in
+    let n = stack-long (s .args .s .now) in (
+      l .loop .inv .2,
+      same-count (l .loop .inv .3),
+      ends (l .loop .inv .3) (omega arith) (omega (arith, n, s .pre .room)),
     )
 
 pub clamp-spec : {M : Type 1} → statement M
@@ -68,13 +87,17 @@ clamp-spec =
     (tie.spec
     Inv-loop
     μ-loop
+    count-in-requires
     loop-holds
-    mul-c
-    element-copy-out-c
+    mul-pair-in
+    slice-read-pair-in
+    pair-in-requires
     clamp-pair-requires
-    mul-t8
-    element-set-from-t
+    pair-bits-requires
+    mul-s
+    slice-write-s
     add-i
     loop-less
     loop-again
+    same-length
     returns)

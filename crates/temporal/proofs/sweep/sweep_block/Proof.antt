@@ -20,41 +20,58 @@ limit-requires c κs = search needs
 
 cells-along-requires : tie.Need-cells-along-requires
 cells-along-requires c κs =
-    let d = c .before .before .stride-along .ensures in
-    (omega (arith, c .limit .ensures, limit-most false (c .before .before .before .before .args .b)), d .1, d .2)
+    let d = c .before .before in
+    (omega (arith, c .limit .ensures, limit-most false (d .before .before .before .args .b)), d .stride-along .ensures .1, d .stride-along .ensures .2)
 
 limit-requires-2 : tie.Need-limit-requires-2
 limit-requires-2 c κs = search needs
 
 cells-along-requires-2 : tie.Need-cells-along-requires-2
 cells-along-requires-2 c κs =
-    let d = c .before .before .before .stride-along2 .ensures in
-    (omega (arith, c .limit2 .ensures, limit-most true (c .before .before .before .before .before .before .args .b)), d .1, d .2)
+    let d = c .before .before .before in
+    (omega (arith, c .limit2 .ensures, limit-most true (d .before .before .before .before .args .b)), d .stride-along2 .ensures .1, d .stride-along2 .ensures .2)
 
 mul-sweep-grid : tie.Need-mul-sweep-grid
 mul-sweep-grid c =
-    let k = mul-le-mul {n₂ = 2} {m₂ = 4096} (c .before .before .before .before .before .stride-along2 .ensures .2) (c .before .before .before .before .before .before .before .before .pre .2 .stride) in
+    let d = c .before .before .before .before .before in
+    let k = mul-le-mul {n₂ = 2} {m₂ = 4096} (d .stride-along2 .ensures .2) (d .before .before .before .before .pre .3 .stride) in
     record { fits = omega (arith, k) }
 
 sweep-grid-requires : tie.Need-sweep-grid-requires
 sweep-grid-requires c κs =
-    let s = c .before .before .before .before .before .before .before .before in (
+    let m = c .before .before in
+    let d = m .before .before .before .before in
+    let s = d .before .before .before .before in (
       s .pre .0,
       s .pre .1,
-      c .before .before .before .cells-along .ensures .1,
-      c .before .before .before .before .before .before .stride-along .ensures .2,
-      c .before .cells-along2 .ensures .1,
-      mul-le-mul {n₂ = 2} {m₂ = 4096} (c .before .before .before .before .before .stride-along2 .ensures .2) (s .pre .2 .stride),
-      s .pre .2 .first,
+      s .pre .2,
+      m .before .before .cells-along .ensures .1,
+      d .before .stride-along .ensures .2,
+      m .cells-along2 .ensures .1,
+      mul-le-mul {n₂ = 2} {m₂ = 4096} (d .stride-along2 .ensures .2) (s .pre .3 .stride),
+      s .pre .3 .first,
     )
+
+same-length : tie.Need-same-length
+same-length c = search needs
 
 returns : tie.Need-returns
 unfolding gridOf
 returns c =
-    let g = c .sweep-grid .ensures in
-    let m = c .before .before .cells-along2 .ensures in (
-      (g .0 .0, omega (arith, g .0 .1, m .1)),
-      rw (g .1, m .0, c .before .before .before .limit2 .ensures, c .before .before .before .before .cells-along .ensures .0, c .before .before .before .before .before .limit .ensures, c .before .before .before .before .before .before .stride-along2 .ensures .0, c .before .before .before .before .before .before .before .stride-along .ensures .0),
+    let g = c .before .before .sweep-grid .ensures in
+    let m = c .before .before .before .before .before in
+    let n = m .before .before in
+    let d = n .before .before in (
+      (g .0 .0, omega (arith, g .0 .1, m .cells-along2 .ensures .1)),
+      rw (
+        g .1,
+        m .cells-along2 .ensures .0,
+        m .before .limit2 .ensures,
+        n .cells-along .ensures .0,
+        n .before .limit .ensures,
+        d .stride-along2 .ensures .0,
+        d .before .stride-along .ensures .0,
+      ),
     )
 
 pub sweep-block-spec : {M : Type 1} → statement M
@@ -69,4 +86,5 @@ sweep-block-spec =
     cells-along-requires-2
     mul-sweep-grid
     sweep-grid-requires
+    same-length
     returns)

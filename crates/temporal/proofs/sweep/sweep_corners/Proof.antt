@@ -15,19 +15,18 @@ is-there-requires-2 c κs = search needs
 
 -- the numbers around the block
 known : (c : tie.Start) → Under (c .args .f) (c .args .b)
-known c = under _ _ (c .pre .2) (c .pre .4)
+known c = under _ _ (c .pre .3) (c .pre .5)
 
 mul-under : tie.Need-mul-under
 mul-under c =
-    let s = c .before .before .before .before .before .before in
-    let k = known s in
+    let k = known (c .before .before .before .before .before .before .before) in
     record { fits = omega (arith, k .most) }
 
 add-under : tie.Need-add-under
 add-under c =
-    let s = c .before .before .before .before .before .before .before in
+    let s = c .before .before .before .before .before .before .before .before in
     let k = known s in
-    record { fits = omega (arith, k .most, k .wide, s .pre .2 .first) }
+    record { fits = omega (arith, k .most, k .wide, s .pre .3 .first) }
 
 is-left-requires : tie.Need-is-left-requires
 is-left-requires c κs = search needs
@@ -37,9 +36,9 @@ both-requires c κs = search needs
 
 sub-visit-where : tie.Need-sub-visit-where
 sub-visit-where c =
-    let s = c .before .before .before .before .before .before .before .before .before in
+    let s = c .before .before .before .before .before .before .before .before .before .before in
     let k = known s in
-    omega (arith, k .least, s .pre .2 .some)
+    omega (arith, k .least, s .pre .3 .some)
 
 visit-where-requires : tie.Need-visit-where-requires
 visit-where-requires c κs = search needs
@@ -49,54 +48,75 @@ both-requires-2 c κs = search needs
 
 add-visit-where : tie.Need-add-visit-where
 add-visit-where c =
-    let s = c .before .before .before .before .before .before .before .before .before .before .before in
+    let s = c .before .before .before .before .before .before .before .before .before .before .before .before .before .before .before in
     let k = known s in
-    record { fits = omega (arith, k .most, k .wide, s .pre .2 .first) }
+    record { fits = omega (arith, k .most, k .wide, s .pre .3 .first) }
 
 visit-where-requires-2 : tie.Need-visit-where-requires-2
 visit-where-requires-2 c κs =
-    let s = c .before .before .before .before .before .before .before .before .before .before .before in
-    let v = c .before .visit-where .ensures .0 in
-    (s .pre .0, record { room = v .0; light = omega (arith, v .1, s .pre .1 .light) })
+    let u = c .before .before .before .before in
+    let s = u .before .before .before .before .before .before .before .before .before .before .before .before in
+    (s .pre .0, u .visit-where .ensures .0 .0, record { light = omega (arith, u .visit-where .ensures .0 .1, s .pre .2 .light) })
 
 sub-is-there : tie.Need-sub-is-there
-sub-is-there c = known (c .before .before .before .before .before .before .before .before .before .before .before .before) .some
+sub-is-there c = known (c .before .before .before .before .before .before .before .before .before .before .before .before .before .before .before .before .before .before .before) .some
 
 is-there-requires-3 : tie.Need-is-there-requires-3
 is-there-requires-3 c κs =
-    let s = c .before .before .before .before .before .before .before .before .before .before .before .before in
-    (s .pre .3, omega (arith, known s .high))
+    let s = c .before .before .before .before .before .before .before .before .before .before .before .before .before .before .before .before .before .before .before in
+    (s .pre .4, omega (arith, known s .high))
 
 both-requires-3 : tie.Need-both-requires-3
 both-requires-3 c κs = search needs
 
 add-visit-where-2 : tie.Need-add-visit-where-2
 add-visit-where-2 c =
-    let s = c .before .before .before .before .before .before .before .before .before .before .before .before .before .before in
+    let s = c .before .before .before .before .before .before .before .before .before .before .before .before .before .before .before .before .before .before .before .before .before in
     let k = known s in
-    record { fits = omega (arith, k .most, k .wide, s .pre .2 .first) }
+    record { fits = omega (arith, k .most, k .wide, s .pre .3 .first) }
 
 sub-visit-where-2 : tie.Need-sub-visit-where-2
 sub-visit-where-2 c =
-    let s = c .before .before .before .before .before .before .before .before .before .before .before .before .before .before .before in
+    let s = c .before .before .before .before .before .before .before .before .before .before .before .before .before .before .before .before .before .before .before .before .before .before in
     let k = known s in
     omega (arith, k .least)
 
 visit-where-requires-3 : tie.Need-visit-where-requires-3
 visit-where-requires-3 c κs =
-    let s = c .before .before .before .before .before .before .before .before .before .before .before .before .before .before .before in
-    let u = c .before .before .before .before .before .visit-where .ensures .0 in
-    let v = c .before .before .before .visit-where2 .ensures .0 in
-    (s .pre .0, record { room = v .0; light = omega (arith, u .1, v .1, s .pre .1 .light) })
+    let v = c .before .before .before .before .before .before in
+    let u = v .before .before .before .before .before in
+    let s = u .before .before .before .before .before .before .before .before .before .before .before .before in
+    let m = v .visit-where2 .ensures .0 in
+    (s .pre .0, m .0, record { light = omega (arith, u .visit-where .ensures .0 .1, m .1, s .pre .2 .light) })
+
+same-length : tie.Need-same-length
+same-length c = search needs
 
 returns : tie.Need-returns
 unfolding cornersOf
 returns c =
-    let u = c .before .before .before .before .before .before .visit-where .ensures in
-    let v = c .before .before .before .before .visit-where2 .ensures in
-    let w = c .visit-where3 .ensures in (
-      (w .0 .0, omega (arith, u .0 .1, v .0 .1, w .0 .1)),
-      rw (w .1, v .1, u .1, c .before .before .both3 .ensures, c .before .before .before .is-there3 .ensures, c .before .before .before .before .before .both2 .ensures, c .before .before .before .before .before .before .before .both .ensures, c .before .before .before .before .before .before .before .before .is-left .ensures, c .before .before .before .before .before .before .before .before .before .before .before .is-there2 .ensures, c .before .before .before .before .before .before .before .before .before .before .before .before .is-there .ensures),
+    let w = c .before .before in
+    let t = w .before .before .before .before in
+    let v = t .before .before .before in
+    let u = v .before .before .before .before .before in
+    let l = u .before .before .before in
+    let r = l .before .before .before in
+    let one = u .visit-where .ensures in
+    let two = v .visit-where2 .ensures in
+    let three = w .visit-where3 .ensures in (
+      (three .0 .0, omega (arith, one .0 .1, two .0 .1, three .0 .1)),
+      rw (
+        three .1,
+        two .1,
+        one .1,
+        w .before .before .before .both3 .ensures,
+        t .is-there3 .ensures,
+        v .before .before .both2 .ensures,
+        u .before .before .both .ensures,
+        l .is-left .ensures,
+        r .is-there2 .ensures,
+        r .before .is-there .ensures,
+      ),
     )
 
 pub sweep-corners-spec : {M : Type 1} → statement M
@@ -120,4 +140,5 @@ sweep-corners-spec =
     add-visit-where-2
     sub-visit-where-2
     visit-where-requires-3
+    same-length
     returns)

@@ -3,6 +3,7 @@
 use mathlib.Core.Path.{sym, _∙_}
 use native.Mathlib.Omega.{arith}
 use denote.Ref.{now}
+use Rattle.stack.specs.Numbers.{foundAt}
 use Rattle.temporal.proofs.Aims.{read-of}
 use Rattle.temporal.proofs.Sweeps.{visit-refused, visit-absent, visit-joined}
 use borrow.Author.Needs.{needs}
@@ -21,29 +22,43 @@ enum-told c = search needs
 enum-known-c : tie.Need-enum-known-c
 enum-known-c c = search needs
 
-pair-of-requires : tie.Need-pair-of-requires
-pair-of-requires c κs =
-    let s = c .before .before .before .before .before in
-    let r = read-of _ _ _ _ (sym (c .before .before .before .cell-at .ensures) ∙ c .before .c .given .1) in
+bits-of-requires : tie.Need-bits-of-requires
+bits-of-requires c κs =
+    let s = c .before .before .before .before .before .before .before in
+    let r = read-of _ _ _ _ (sym (c .before .before .before .before .cell-at .ensures) ∙ c .before .before .c .given .1) in
     (r .0, r .1, s .pre .0 .first, s .pre .0 .second)
 
-add-requires : tie.Need-add-requires
-add-requires c κs = search needs
+add-bits-requires : tie.Need-add-bits-requires
+add-bits-requires c κs = search needs
 
 returns : tie.Need-returns
 returns c =
-    let s = c .before .before .before .before .before in
-    ((s .pre .1 .room, omega arith), visit-refused (now (s .args .proj)) (s .args .total) (s .args .i) (s .args .a) (s .args .s) (c .before .before .before .cell-at .ensures) (c .before .n .given .1))
+    let r = c .before .before .before in
+    let s = r .before .before .before in
+    let l = s .args .s .now in
+    ((s .pre .1, omega arith), visit-refused (now (s .args .proj)) (s .args .total) (s .args .i) (s .args .a) (foundAt l) (r .cell-at .ensures) (c .before .n .given .1))
 
 returns-2 : tie.Need-returns-2
 returns-2 c =
-    let s = c .before .before .before .before in
-    ((s .pre .1 .room, omega arith), visit-absent (now (s .args .proj)) (s .args .total) (s .args .i) (s .args .a) (s .args .s) (c .before .before .cell-at .ensures) (c .enum-told .given .1))
+    let r = c .before .before in
+    let s = r .before .before .before in
+    let l = s .args .s .now in
+    ((s .pre .1, omega arith), visit-absent (now (s .args .proj)) (s .args .total) (s .args .i) (s .args .a) (foundAt l) (r .cell-at .ensures) (c .enum-told .given .1))
+
+same-length : tie.Need-same-length
+same-length c = search needs
 
 returns-3 : tie.Need-returns-3
 returns-3 c =
-    let s = c .before .before .before .before .before .before .before in
-    ((c .add .ensures .0, c .add .ensures .2), visit-joined (now (s .args .proj)) (s .args .total) (s .args .i) (s .args .a) (s .args .s) (c .add .result) (c .before .before .before .before .before .cell-at .ensures) (c .before .before .before .c .given .1) (c .before .pair-of .ensures .0) (c .add .ensures .1))
+    let t = c .before .before .add-bits in
+    let k = c .before .before .before in
+    let m = k .before .before .before in
+    let r = m .before .before in
+    let s = r .before .before .before in
+    let l = s .args .s .now in
+    let e = visit-joined (now (s .args .proj)) (s .args .total) (s .args .i) (s .args .a) (foundAt l) (foundAt (t .last .0)) (r .cell-at .ensures) (m .c .given .1)
+    (k .bits-of .ensures) (t .ensures .1) in
+    ((t .ensures .0, t .ensures .2), e)
 
 pub visit-spec : {M : Type 1} → statement M
 visit-spec =
@@ -53,8 +68,9 @@ visit-spec =
     enum-known-n
     enum-told
     enum-known-c
-    pair-of-requires
-    add-requires
+    bits-of-requires
+    add-bits-requires
     returns
     returns-2
+    same-length
     returns-3)

@@ -1,16 +1,16 @@
 -- `neighbours::read::Neighbour::along` meets its contract.
 -- Assumes nothing.
 use Rattle.neighbours.specs.Neighbour.{alongOf}
+use borrow.Author.Needs.{needs}
 use Rattle.neighbours.proofs.read.Neighbour.along.Statement.{statement}
 use Rattle.neighbours.proofs.read.Neighbour.along.Tie as tie
 
+side-requires : tie.Need-side-requires
+side-requires c κs = search needs
+
 returns : tie.Need-returns
 unfolding alongOf
-returns c = rw (c .if1 .taken)
-
-returns-2 : tie.Need-returns-2
-unfolding alongOf
-returns-2 c = rw (c .if1 .left)
+returns c = c .side .ensures
 
 pub along-spec : {M : Type 1} → statement M
-along-spec = tie.close (tie.spec returns returns-2)
+along-spec = tie.close (tie.spec side-requires returns)

@@ -3,8 +3,8 @@
 use mathlib.Core.Path.{ap}
 use native.Mathlib.Omega.{arith}
 use Prim.Native.Nat.{_*_}
-use Rattle.frame.specs.Sizes.{projectedCells}
-use Rattle.frame.proofs.Sizing.{fits}
+use Rattle.extent.specs.Sizes.{projectedCells}
+use Rattle.extent.proofs.Sizing.{fits}
 use Rattle.rows.proofs.Parts.{blocks-fit}
 use Rattle.saving.specs.Area.{windowOf}
 use Rattle.saving.proofs.Areas.{part-fits}

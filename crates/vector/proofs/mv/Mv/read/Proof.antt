@@ -1,23 +1,22 @@
 -- `vector::mv::Mv::read` meets its contract.
 -- Assumes nothing.
-use mir.Syntax.{w16}
-use Rattle.ground.proofs.Bits.{kept}
-use Rattle.vector.proofs.Vectors.{vector}
+use mathlib.Core.Path.{ap, _∙_}
+use Rattle.vector.specs.Vector.{mvOf}
+use Rattle.vector.proofs.Words.{of-four}
 use borrow.Author.Needs.{needs}
 use Rattle.vector.proofs.mv.Mv.read.Statement.{statement}
 use Rattle.vector.proofs.mv.Mv.read.Tie as tie
 
-read-half-requires : tie.Need-read-half-requires
-read-half-requires c κs = search needs
+u32-at-requires : tie.Need-u32-at-requires
+u32-at-requires c κs = search needs
 
-add-read-half : tie.Need-add-read-half
-add-read-half c = search needs
-
-read-half-requires-2 : tie.Need-read-half-requires-2
-read-half-requires-2 c κs = search needs
+of-bits-requires : tie.Need-of-bits-requires
+of-bits-requires c κs = search needs
 
 returns : tie.Need-returns
-returns c = vector (kept w16 (c .before .read-half .ok) (c .before .read-half .ensures)) (kept w16 (c .read-half2 .ok) (c .read-half2 .ensures))
+returns c =
+    let s = c .before .before .before in
+    c .of-bits .ensures ∙ ap mvOf (c .before .u32-at .ensures) ∙ of-four (s .args .s .now) (s .args .at) (λ j. c .before .before .shared-slice-known .given j .fits)
 
 pub read-spec : {M : Type 1} → statement M
-read-spec = tie.close (tie.spec read-half-requires add-read-half read-half-requires-2 returns)
+read-spec = tie.close (tie.spec u32-at-requires of-bits-requires returns)

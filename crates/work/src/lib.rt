@@ -1,0 +1,2 @@
+// A job's work, row by row.
+pub mod row;
