@@ -15,7 +15,7 @@ pub const ABSENT: u32 = u32::MAX;
 
 pub fn frame_bytes(record: &FrameRecord) -> [u8; FRAME_LEN] {
     let mut bytes = Vec::with_capacity(FRAME_LEN);
-    bytes.extend(sizes(record).into_iter().flat_map(u32::to_le_bytes));
+    bytes.extend(record.sizes().into_iter().flat_map(u32::to_le_bytes));
     bytes.extend([record.use_ref_frame_mvs, record.temporal, record.n_mfmvs]);
     for hint in &record.hints {
         bytes.extend([hint.sign_bias, hint.mfmv_sign]);
@@ -27,23 +27,6 @@ pub fn frame_bytes(record: &FrameRecord) -> [u8; FRAME_LEN] {
         bytes.extend(slot.ref2ref);
     }
     bytes.try_into().expect("the fields have 109 bytes")
-}
-
-fn sizes(record: &FrameRecord) -> [u32; 12] {
-    [
-        record.width,
-        record.height,
-        record.iw4,
-        record.ih4,
-        record.iw8,
-        record.ih8,
-        record.sbsz,
-        record.stride,
-        record.tile_rows,
-        record.n_blocks,
-        record.n_tile_threads,
-        record.n_frame_threads,
-    ]
 }
 
 pub fn tile_bytes(table: &RowTable) -> [u8; TILE_LEN] {

@@ -62,6 +62,26 @@ pub struct FrameRecord {
     pub slots: [Slot; 3],
 }
 
+impl FrameRecord {
+    /// The numbers before the flags, in their order.
+    pub fn sizes(&self) -> [u32; 12] {
+        [
+            self.width,
+            self.height,
+            self.iw4,
+            self.ih4,
+            self.iw8,
+            self.ih8,
+            self.sbsz,
+            self.stride,
+            self.tile_rows,
+            self.n_blocks,
+            self.n_tile_threads,
+            self.n_frame_threads,
+        ]
+    }
+}
+
 /// What setup keeps of one reference's hint.
 #[derive(Clone, Copy, Debug, PartialEq, Eq)]
 pub struct HintFields {

@@ -95,7 +95,8 @@ impl list::Case for Case {
 
 fn line(record: &FrameRecord, finished: &Finished) -> String {
     let mut words = vec![0.to_string()];
-    words.extend(size_words(record));
+    words.extend(record.sizes().map(|number| number.to_string()));
+    words.extend([record.use_ref_frame_mvs, record.temporal].map(|flag| flag.to_string()));
     for fields in &record.hints {
         words.extend([fields.sign_bias, fields.mfmv_sign].map(|flag| flag.to_string()));
         words.push(fields.pocdiff.to_string());
@@ -114,26 +115,6 @@ fn line(record: &FrameRecord, finished: &Finished) -> String {
     words.push(saved.to_string());
     words.extend([finished.projection, finished.records].map(|cells| cells.to_string()));
     words.join(" ")
-}
-
-fn size_words(record: &FrameRecord) -> [String; 14] {
-    [
-        record.width,
-        record.height,
-        record.iw4,
-        record.ih4,
-        record.iw8,
-        record.ih8,
-        record.sbsz,
-        record.stride,
-        record.tile_rows,
-        record.n_blocks,
-        record.n_tile_threads,
-        record.n_frame_threads,
-        record.use_ref_frame_mvs.into(),
-        record.temporal.into(),
-    ]
-    .map(|number| number.to_string())
 }
 
 #[cfg(test)]
