@@ -6,6 +6,7 @@ use house::root;
 use house::rows;
 use house::section;
 use house::Row;
+use house::Wrong;
 
 fn document(name: &str) -> String {
     read(&root().join("docs").join(name))
@@ -49,15 +50,15 @@ fn every_wrong_program_is_told_and_applies() {
     let mut faults = Vec::new();
     for library in libraries() {
         let own = section(&contracts, "##", &library.name).unwrap_or_default();
-        let edits = library.edits();
-        for edit in &edits {
-            if !own.contains(&edit.name) {
-                faults.push(format!("{}: {} isn't told of", library.name, edit.name));
+        let wrong = library.wrong();
+        for one in &wrong {
+            if !own.contains(&one.name) {
+                faults.push(format!("{}: {} isn't told of", library.name, one.name));
             }
-            if edit.places != 1 || !edit.changes {
+            if one.places != 1 || !one.changes {
                 faults.push(format!(
                     "{}: {} applies at {} places",
-                    library.name, edit.name, edit.places
+                    library.name, one.name, one.places
                 ));
             }
         }
@@ -65,10 +66,29 @@ fn every_wrong_program_is_told_and_applies() {
             let elsewhere = || {
                 libraries()
                     .iter()
-                    .any(|other| other.edits().iter().any(|edit| edit.name == name))
+                    .any(|other| other.wrong().iter().any(|one| one.name == name))
             };
-            if !edits.iter().any(|edit| edit.name == name) && !elsewhere() {
+            if !wrong.iter().any(|one| one.name == name) && !elsewhere() {
                 faults.push(format!("{}: there is no edit {name}", library.name));
+            }
+        }
+    }
+    none(faults);
+}
+
+#[test]
+fn wrong_programs_of_one_edit_are_of_different_functions() {
+    let mut faults = Vec::new();
+    for library in libraries() {
+        let wrong = library.wrong();
+        for (i, one) in wrong.iter().enumerate() {
+            let beside = |other: &&Wrong| other.edit == one.edit;
+            let alike = |other: &Wrong| {
+                let functions = [&other.function, &one.function];
+                functions.contains(&&None) || functions[0] == functions[1]
+            };
+            if wrong[..i].iter().filter(beside).any(alike) {
+                faults.push(format!("{}: {} isn't alone", library.name, one.name));
             }
         }
     }
