@@ -60,7 +60,7 @@ keeps-joined n s p w k h =
       heavy = ge-add 2 (s .cands) p w (k .heavy) h;
     }
 
-pub keeps-raised : (s : State) → Kept 0 (s .cands) → Kept (length (s .cands)) (raised s .cands)
+pub keeps-raised : (s : State) → Kept 0 (s .cands) → Kept (length (s .cands)) (raised 640 s .cands)
 unfolding raised
 keeps-raised s k =
     let e = length-map (s .cands) (heavier 640) in

@@ -56,7 +56,7 @@ module _ (read read′ : ℕ → ℕ → Read) (cells cells′ : ℕ → CellRea
     same-on s above left =
         let still = zero-where cells cells′ (aimOf f a) (fieldAt f t a) (siteOf t a) (timed f) (f .temporal) placed spots in
         λ i.
-        afterFound (temporal-where cells cells′ (aimOf f a) (fieldAt f t a) (siteOf t a) (timed f) (raised s) spots i) (λ u.
+        afterFound (temporal-where cells cells′ (aimOf f a) (fieldAt f t a) (siteOf t a) (timed f) (raised 640 s) spots i) (λ u.
         afterWent (far-all read read′ (siteOf t a) placed places (wantOf a) above left u i) (λ v r c. same-end (still i) (length (s .cands)) (matchesOf s) (s .newmv) v i))
 
     pub same-reads : searchOf read cells f t a ≡ searchOf read′ cells′ f t a

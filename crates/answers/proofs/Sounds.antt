@@ -81,8 +81,8 @@ module _ (read : ℕ → ℕ → Read) (cells : ℕ → CellRead) (f : Frame) (t
       let n = length (s .cands) in
       let field = fieldOf (f .sizes) t (siteOf t a) in
       let still = zeroWhere (timed f) cells (aimOf f a) field (f .temporal) in
-      after-found (Kept n) (Sound n reach) (temporalWhere (timed f) cells (aimOf f a) field (siteOf t a) (raised s)) _
-      (temporal-where n cells (aimOf f a) (timed f) field (siteOf t a) (raised s) (keeps-raised s k)) (λ u h.
+      after-found (Kept n) (Sound n reach) (temporalWhere (timed f) cells (aimOf f a) field (siteOf t a) (raised 640 s)) _
+      (temporal-where n cells (aimOf f a) (timed f) field (siteOf t a) (raised 640 s) (keeps-raised s k)) (λ u h.
       after-went (Kept n) (Sound n reach) (farAll read (siteOf t a) above left (wantOf a) u) _ (far-all n read (siteOf t a) (wantOf a) above left u h) (λ v r c i.
       conclusion still n (matchesOf s) (s .newmv) v i))
 

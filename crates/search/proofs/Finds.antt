@@ -111,12 +111,12 @@ module _ (read : ℕ → ℕ → Read) (f : Frame) (t : Tile) (a : Ask) (still c
 module _ (read : ℕ → ℕ → Read) (cells : ℕ → CellRead) (f : Frame) (t : Tile) (a : Ask) where
   -- from the near neighbours on
   module _ (s : State) (above left : ℕ) where
-    pub goes-not : {n : ℕ} → temporalWhere (timed f) cells (aimOf f a) (fieldOf (f .sizes) t (siteOf t a)) (siteOf t a) (raised s) ≡ answered.refused n
+    pub goes-not : {n : ℕ} → temporalWhere (timed f) cells (aimOf f a) (fieldOf (f .sizes) t (siteOf t a)) (siteOf t a) (raised 640 s) ≡ answered.refused n
         → goneOn read cells f t a s above left ≡ refused n
     unfolding goneOn
     goes-not e = rw e
 
-    module _ {u : State} (e : temporalWhere (timed f) cells (aimOf f a) (fieldOf (f .sizes) t (siteOf t a)) (siteOf t a) (raised s) ≡ answered.found u) where
+    module _ {u : State} (e : temporalWhere (timed f) cells (aimOf f a) (fieldOf (f .sizes) t (siteOf t a)) (siteOf t a) (raised 640 s) ≡ answered.found u) where
       pub goes-no-farther : {n : ℕ} → farAll read (siteOf t a) above left (wantOf a) u ≡ around.refused n → goneOn read cells f t a s above left ≡ refused n
       unfolding goneOn
       goes-no-farther g = rw (e, g)
@@ -236,9 +236,9 @@ past p nf nt = record { frame = nf; tile = nt; well = p .well; asked = p .asked;
 -- The parts that the code asked for, as the definition has them.
 module _ (l tl : List ℕ) (a : Ask) {z : Sizes} {b : Site} (ze : z ≡ sizesAt l) (be : b ≡ siteOf (tileAt tl) a) where
   module _ (proj : List ℕ) {fd : Field} {m : Aim} (fe : fd ≡ fieldOf z (tileAt tl) b) (me : m ≡ aimOf (frameAt l) a) where
-    pub timed-asked : (u : State) {s : State} {o : answered.Outcome} → s ≡ raised u
+    pub timed-asked : (u : State) {s : State} {o : answered.Outcome} → s ≡ raised 640 u
         → o ≡ temporalWhere (not (eqb (getD l 48 0) 0)) (cellRead proj (fd .total)) m fd b s
-        → temporalWhere (timed (frameAt l)) (cellRead proj (projectedCells (frameAt l .sizes))) (aimOf (frameAt l) a) (fieldOf (frameAt l .sizes) (tileAt tl) (siteOf (tileAt tl) a)) (siteOf (tileAt tl) a) (raised u) ≡ o
+        → temporalWhere (timed (frameAt l)) (cellRead proj (projectedCells (frameAt l .sizes))) (aimOf (frameAt l) a) (fieldOf (frameAt l .sizes) (tileAt tl) (siteOf (tileAt tl) a)) (siteOf (tileAt tl) a) (raised 640 u) ≡ o
     unfolding frameAt fieldOf
     timed-asked u se e = sym (rw (me, se, fe, be, ze) at e)
 

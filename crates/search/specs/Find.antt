@@ -86,7 +86,7 @@ timed f = not (eqb (f .«use_ref_frame_mvs») 0)
 -- From the near neighbours on: each of their candidates gains 640; the temporal process; the point above left and the far lines.
 unfoldable pub goneOn : (ℕ → ℕ → Read) → (ℕ → CellRead) → Frame → Tile → Ask → State → (above left : ℕ) → Result
 goneOn read cells f t a s above left =
-    afterFound (temporalWhere (timed f) cells (aimOf f a) (fieldOf (f .sizes) t (siteOf t a)) (siteOf t a) (raised s)) (λ u.
+    afterFound (temporalWhere (timed f) cells (aimOf f a) (fieldOf (f .sizes) t (siteOf t a)) (siteOf t a) (raised 640 s)) (λ u.
     afterWent (farAll read (siteOf t a) above left (wantOf a) u) (λ v r c.
     concluded read f t a (zeroWhere (timed f) cells (aimOf f a) (fieldOf (f .sizes) t (siteOf t a)) (f .temporal)) (length (s .cands)) (matchesOf s) (s .newmv) v))
 

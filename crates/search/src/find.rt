@@ -19,6 +19,7 @@ use front::context::matches;
 use layout::frame_bytes::sizes_at;
 use rows::setup::lesser;
 use site::block::Site;
+use stack::add::REF_CAT_LEVEL;
 use stack::add::raise;
 use stack::clamp::Reach;
 use stack::clamp::clamp;
@@ -152,7 +153,7 @@ fn go_on(
     let aim = aim_of(frame, a);
     let f = field_of(z, tile, b);
     let first = take_nearest(s);
-    raise(s);
+    raise(s, REF_CAT_LEVEL);
     let timed = temporal_where(on, proj, f, b, aim, s);
     if timed != 0 {
         return refuse(timed);

@@ -22,7 +22,7 @@ use Rattle.stack.specs.Numbers.{pairBits, pairIn, candAt, foundAt, Held}
 use Rattle.stack.specs.Clamp.{clampedMv, clampedPair, clampedOne, clamped, lowest, highest}
 use Rattle.stack.proofs.Helds.{stack-long, cand-is, pair-laid, FitsPair, pair-back}
 use Rattle.stack.proofs.Maps.{Turned, turns}
-use Rattle.stack.proofs.Swaps.{still-held}
+use Rattle.stack.proofs.Carries.{still-held}
 
 -- a component's magnitude is held to a bound that a component can have as it is to the bound
 side : (back on : ℕ) (z : ℤ) → mag z < 2 ^ 15

@@ -53,13 +53,13 @@ heft-add l p w = by (stands l p) refl (ltb (length l) 8)
     by false e true = omega (arith, heft-append l (record { mv = p; weight = w }))
     by false e false = omega arith
 
-heft-map : (l : List Candidate) → heft (map (heavier 640) l) ≡ heft l + 640 * length l
+heft-map : (w : ℕ) → w ≤ 640 → (l : List Candidate) → heft (map (heavier w) l) ≤ heft l + 640 * length l
 unfolding heft
-heft-map [] = refl
-heft-map (x ∷ xs) = omega (arith, heft-map xs)
+heft-map w k [] = omega arith
+heft-map w k (x ∷ xs) = omega (arith, heft-map w k xs)
 
-pub heft-raised : (l : List Candidate) → length l ≤ 8 → heft (map (heavier 640) l) ≤ heft l + 5120
-heft-raised l h = omega (arith, heft-map l)
+pub heft-raised : (l : List Candidate) (w : ℕ) → length l ≤ 8 → w ≤ 640 → heft (map (heavier w) l) ≤ heft l + 5120
+heft-raised l w h k = omega (arith, heft-map w k l)
 
 -- each weight is at least 1
 abbrev pub Heavy : List Candidate → Type 0
@@ -96,9 +96,9 @@ pub heavy-map : (l : List Candidate) (w : ℕ) → Heavy l → Heavy (map (heavi
 heavy-map [] w h = tt
 heavy-map (x ∷ xs) w h = (omega (arith, h .0), heavy-map xs w (h .1))
 
-pub heavy-raised : (s : State) → Heavy (s .cands) → Heavy (raised s .cands)
+pub heavy-raised : (w : ℕ) (s : State) → Heavy (s .cands) → Heavy (raised w s .cands)
 unfolding raised
-heavy-raised s h = heavy-map (s .cands) 640 h
+heavy-raised w s h = heavy-map (s .cands) w h
 
 heavy-insert : (c : Candidate) (l : List Candidate) → 1 ≤ c .weight → Heavy l → Heavy (insert c l)
 unfolding insert

@@ -4,6 +4,6 @@ pub mod Adds
 pub mod Counts
 pub mod Maps
 pub mod Moves
-pub mod Swaps
+pub mod Carries
 pub mod Clips
 pub mod Answers

@@ -85,9 +85,9 @@ pushed s p = withCands s (s .cands ++ (record { mv = p; weight = 2 } ∷ []))
 unfoldable pub extended : State → MvPair → State
 extended s p = withCands s (pick (stands (s .cands) p) (s .cands) (s .cands ++ (record { mv = p; weight = 2 } ∷ [])))
 
--- REF_CAT_LEVEL, once the nearest neighbours are through
-unfoldable pub raised : State → State
-raised s = withCands s (map (heavier 640) (s .cands))
+-- all candidates gain a weight: REF_CAT_LEVEL, 640, once the nearest neighbours are through
+unfoldable pub raised : ℕ → State → State
+raised w s = withCands s (map (heavier w) (s .cands))
 
 -- all weights together
 unfoldable pub heft : List Candidate → ℕ

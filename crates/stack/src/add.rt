@@ -92,14 +92,17 @@ pub fn is_first(s: &[u64], p: MvPair) -> bool
 }
 
 // What the nearest neighbours gave outweighs all that comes later.
-pub fn raise(s: &mut [u64])
-    requires { ⌜ Held (now s) × (heft (live (foundAt (now s))) + 5120 < 2 ^ 32) ⌝ }
-    ensures { λ _. ⌜ Held (now (s .exit)) × (foundAt (now (s .exit)) .count ≡ foundAt (now (s .entry)) .count) × (view (foundAt (now (s .exit))) ≡ raised (view (foundAt (now (s .entry))))) × (heft (live (foundAt (now (s .exit)))) ≤ heft (live (foundAt (now (s .entry)))) + 5120) ⌝ }
+pub const REF_CAT_LEVEL: u64 = 640;
+
+// Every candidate gains weight.
+pub fn raise(s: &mut [u64], w: u64)
+    requires { ⌜ Held (now s) × (w ≤ 640) × (heft (live (foundAt (now s))) + 5120 < 2 ^ 32) ⌝ }
+    ensures { λ _. ⌜ Held (now (s .exit)) × (foundAt (now (s .exit)) .count ≡ foundAt (now (s .entry)) .count) × (view (foundAt (now (s .exit))) ≡ raised w (view (foundAt (now (s .entry))))) × (heft (live (foundAt (now (s .exit)))) ≤ heft (live (foundAt (now (s .entry)))) + 5120) ⌝ }
 {
     let n = count_in(s);
     let mut i: usize = 0;
     while i < n {
-        s[8 + i] += 640;
+        s[8 + i] += w;
         i += 1;
     }
 }

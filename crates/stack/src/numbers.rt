@@ -7,8 +7,8 @@ use cells::block::MvPair;
 use vector::mv::Mv;
 ghost use mathlib.Core.Path.{_≡_};
 ghost use Prim.Native.Nat.{_%_, _^_, _<_};
-ghost use lib.ListN.{length};
-ghost use Rattle.stack.specs.Stack.{view, nothing};
+ghost use lib.ListN.{length, set};
+ghost use Rattle.stack.specs.Stack.{view, nothing, withStack};
 ghost use Rattle.stack.specs.Numbers.{pairBits, pairIn, candAt, foundAt, flagIn, flagged, placeOf, Held};
 
 pub const NUMBERS: usize = 20;
@@ -56,6 +56,15 @@ pub fn candidate_in(s: &[u64], i: usize) -> Candidate
         mv,
         weight: (s[8 + i] % 4294967296) as u32,
     }
+}
+
+// Candidate i becomes the one of this pair and weight.
+pub(crate) fn put_candidate(s: &mut [u64], i: usize, k: u64, w: u64)
+    requires { ⌜ Held (now s) × (i < 8) ⌝ }
+    ensures { λ _. ⌜ Held (now (s .exit)) × (foundAt (now (s .exit)) ≡ withStack (foundAt (now (s .entry))) (set (foundAt (now (s .entry)) .stack) i (record { mv = pairIn k; weight = w }))) ⌝ }
+{
+    s[i] = k;
+    s[8 + i] = w;
 }
 
 fn place_of(f: Flag) -> usize

@@ -129,8 +129,9 @@ pub fn zero_context(proj: &[u8], total: usize, i: usize, a: Aim, header: u8) -> 
         CellRead::Refused(_) => header,
         CellRead::Absent => header,
         CellRead::Of(c) => {
-            let p = pair_of(c, a);
-            flag(is_far(p.first, a.gmv))
+            let den = distance_of(c.reference);
+            let v = take_towards(c.mv, a.first, den, a.integer, a.hp);
+            flag(is_far(v, a.gmv))
         }
     }
 }

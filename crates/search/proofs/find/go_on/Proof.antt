@@ -38,7 +38,7 @@ take-nearest-requires : tie.Need-take-nearest-requires
 take-nearest-requires c κs = c .before .before .before .before .before .before .before .before .before .before .before .before .pre .4 .size
 
 raise-requires : tie.Need-raise-requires
-raise-requires c κs = let s = c .before .before .before .before .before .before .before .before .before .before .before .before .before .before in (s .pre .4, omega (arith, s .pre .5))
+raise-requires c κs = let s = c .before .before .before .before .before .before .before .before .before .before .before .before .before .before in (s .pre .4, omega arith, omega (arith, s .pre .5))
 
 temporal-where-requires : tie.Need-temporal-where-requires
 temporal-where-requires c κs =

@@ -14,16 +14,16 @@ use Rattle.stack.proofs.add.raise.Statement.{statement}
 use Rattle.stack.proofs.add.raise.Tie as tie
 
 abbrev Inv-loop : tie.InvT-loop
-Inv-loop s₀ n i₀ s i = (i ≤ n) × Held s × Turned (heavier 640) (foundAt s₀) i (foundAt s)
+Inv-loop s₀ w n i₀ s i = (i ≤ n) × Held s × Turned (heavier w) (foundAt s₀) i (foundAt s)
 
 abbrev μ-loop : tie.MeasureT-loop
-μ-loop s₀ n i₀ s i = n - i
+μ-loop s₀ w n i₀ s i = n - i
 
 count-in-requires : tie.Need-count-in-requires Inv-loop μ-loop
 count-in-requires c κs = c .before .before .pre .0 .size
 
 loop-holds : tie.Need-loop-holds Inv-loop μ-loop
-loop-holds c = let s = c .before .before .before in (search needs, s .pre .0, starts (heavier 640) (foundAt (s .args .s .now)))
+loop-holds c = let s = c .before .before .before in (search needs, s .pre .0, starts (heavier (s .args .w)) (foundAt (s .args .s .now)))
 
 add-s : tie.Need-add-s Inv-loop μ-loop
 add-s c = record { fits = omega (arith, c .before .before .count-in .ensures, c .before .before .before .before .before .pre .0 .room) }
@@ -65,7 +65,7 @@ loop-again c =
     let n = l .before .count-in .ensures in
     let k = stack-long (s .args .s .now) in
     let r = s .pre .0 .room in
-    let g = gains (l .loop .s) (l .loop .inv .1) (l .loop .i) 640 (omega arith) in
+    let g = gains (l .loop .s) (l .loop .inv .1) (l .loop .i) (s .args .w) (omega arith) in
     (search needs, g .0, rw (g .1) (turns (l .loop .inv .2) (omega arith) refl))
 
 same-length : tie.Need-same-length Inv-loop μ-loop
@@ -82,7 +82,7 @@ returns c =
     let r = s .pre .0 .room in
     let v = ends (l .loop .inv .2) (omega arith) (omega arith) in
     let k = live-length f m r in
-    (l .loop .inv .1, same-count (l .loop .inv .2), v, rw (live-of f (foundAt (l .loop .s)) v) (heft-raised (live f) (omega arith)))
+    (l .loop .inv .1, same-count (l .loop .inv .2), v, rw (live-of f (foundAt (l .loop .s)) v) (heft-raised (live f) (s .args .w) (omega arith) (s .pre .1)))
 
 pub raise-spec : {M : Type 1} → statement M
 raise-spec =
