@@ -27,8 +27,9 @@ use Rattle.job.specs.declared.record.Batch.{Batch}
 use Rattle.job.specs.Job.{noJob, jobAt}
 use Rattle.job.specs.Bytes.{jobHeld}
 use Rattle.jobs.specs.Admit.{Handed}
-use Rattle.jobs.specs.Step.{stepNumber, stepDone, withDone, names, turnNumber, turnBatch}
+use Rattle.jobs.specs.Step.{stepNumber, stepDone}
 use Rattle.jobs.proofs.Steps.{due}
+use Rattle.turns.specs.Turn.{withDone, names, turnNumber, turnBatch}
 use Rattle.abi.specs.Moved.{loadLacks}
 use Rattle.abi.specs.JobBytes.{jobFrom, jobIn, jobsIn, placeIn, batchIn}
 use Rattle.abi.specs.Batched.{handedIn, donePatch, steppedNumber, steppedJobs}

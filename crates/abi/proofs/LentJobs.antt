@@ -19,8 +19,9 @@ use Rattle.job.specs.Job.{noJob, jobAt}
 use Rattle.jobs.specs.declared.step.Answer.the-variants.{Moved, Done, Refused}
 use Rattle.jobs.specs.declared.step.Stepped.{Stepped}
 use Rattle.jobs.specs.Admit.{Handed}
-use Rattle.jobs.specs.Step.{doneNumber, numberOf, answerOf, stepNumber, stepDone, stepProj, stepSaved, names, turnNumber, turnProj, turnSaved}
-use Rattle.jobs.proofs.Steps as steps
+use Rattle.jobs.specs.Step.{doneNumber, numberOf, answerOf, stepNumber, stepDone, stepProj, stepSaved}
+use Rattle.turns.specs.Turn.{names, turnNumber, turnProj, turnSaved}
+use Rattle.turns.proofs.Turns as turns
 use Rattle.abi.specs.JobBytes.{jobIn, jobsIn, placeIn, batchIn}
 use Rattle.abi.specs.Batched.{donePatch}
 
@@ -90,7 +91,7 @@ module _ (h : Handed) (jobs : List ℕ) (k : ℕ) (proj saved : List ℕ) (lacks
       let i : j ≡ jobAt (batchIn jobs) k = q ∙ sym (job-there jobs k g) in
       let m : n ≡ stepNumber h j = a ∙ ap (λ (x : Stepped). numberOf (x .answer)) r ∙ number-back (stepNumber h j) in
       let z =
-      steps.turned h (batchIn jobs) k proj saved w
+      turns.turned h (batchIn jobs) k proj saved w
       (r ∙ ap (λ (x : Job). record { answer = answerOf (stepNumber h x); done = stepDone h x }) i)
       (c ∙ ap (λ (x : Job). run (stepProj h x) proj) i)
       (d ∙ ap (λ (x : Job). run (stepSaved h x) saved) i) in

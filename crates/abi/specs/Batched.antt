@@ -7,7 +7,7 @@ use Rattle.ground.specs.Little.{fourBytes}
 use Rattle.ground.specs.Pick.{pick}
 use Rattle.ground.specs.Script.{Patch}
 use Rattle.jobs.specs.Admit.{Handed, handed, batchAnswer}
-use Rattle.jobs.specs.Step.{turnNumber, turnProj, turnSaved}
+use Rattle.turns.specs.Turn.{turnNumber, turnProj, turnSaved}
 use Rattle.layout.specs.FrameBytes.{frameAt}
 use Rattle.abi.specs.Moved.{loadLacks}
 use Rattle.abi.specs.JobBytes.{jobIn, batchIn}

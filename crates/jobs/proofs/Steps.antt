@@ -5,27 +5,25 @@ use mathlib.Core.Bool.{Bool, true, false, not}
 use mathlib.Core.List.{List, []}
 use Prim.Native.Nat.{ℕ, zero, suc, _+_, _<_}
 use native.Mathlib.Omega.{arith}
-use lib.Dec.{eqb, leb, ltb}
+use lib.Dec.{eqb}
 use lib.ListN.{length}
-use borrow.Author.Tests.{eq-eqb, ne-eqb, eqb-false, leb-true, ltb-true}
+use borrow.Author.Tests.{eq-eqb, ne-eqb, eqb-false}
 use Rattle.ground.specs.Answer.{accepted}
 use Rattle.ground.specs.Pick.{pick}
 use Rattle.ground.specs.Script.{Patch, run}
 use Rattle.ground.proofs.Answers.{both-accept, or-accepts, or-refuses, refused-not}
-use Rattle.ground.proofs.Picks.{both, pick-true, pick-false}
+use Rattle.ground.proofs.Picks.{pick-true, pick-false}
 use Rattle.loading.specs.Load.{lengthsOf}
 use Rattle.job.specs.declared.record.Job.{Job}
-use Rattle.job.specs.declared.record.Batch.{Batch}
-use Rattle.job.specs.Job.{isLoad, jobAt, wellKind, countOf}
+use Rattle.job.specs.Job.{isLoad, wellKind, countOf}
 use Rattle.job.specs.Needs.{Able, Room}
 use Rattle.job.proofs.Fronts.{front, count-most}
 use Rattle.work.specs.Work.{workRead, workScript, onProj, onSaved}
 use Rattle.jobs.specs.declared.step.Answer.{Answer}
-use Rattle.jobs.specs.declared.step.Answer.the-variants.{Moved, Refused}
+use Rattle.jobs.specs.declared.step.Answer.the-variants.{Moved}
 use Rattle.jobs.specs.declared.step.Stepped.{Stepped}
-use Rattle.jobs.specs.declared.step.Turned.{Turned}
 use Rattle.jobs.specs.Admit.{Handed, lengthsIn, frontOf}
-use Rattle.jobs.specs.Step.{doneNumber, answerOf, stepNumber, stepDone, stepProj, stepSaved, counted, names, turnNumber, turnProj, turnSaved, turnBatch}
+use Rattle.jobs.specs.Step.{doneNumber, answerOf, stepNumber, stepDone, stepProj, stepSaved}
 
 -- THE NUMBER'S FOUR WAYS OUT
 module _ (h : Handed) (j : Job) where
@@ -87,11 +85,11 @@ either true = refl
 either false = refl
 
 module _ (h : Handed) (j : Job) (n : stepNumber h j ≡ 0 → ⊥) where
-  proj-none : stepProj h j ≡ []
+  pub proj-none : stepProj h j ≡ []
   unfolding stepProj
   proj-none = ap (onProj j) (none-laid (stepNumber h j) _ n) ∙ either (isLoad j)
 
-  saved-none : stepSaved h j ≡ []
+  pub saved-none : stepSaved h j ≡ []
   unfolding stepSaved
   saved-none = ap (onSaved j) (none-laid (stepNumber h j) _ n) ∙ either (isLoad j)
 
@@ -126,39 +124,5 @@ module _ (h : Handed) (j : Job) (proj saved : List ℕ) {r : ℕ} (e : r ≡ ste
         (
           p ∙ ap (λ (m : ℕ). run (onProj j (accepted m (workScript (h .frame) (h .fields) (h .recs) j (j .done)))) proj) k,
           q ∙ ap (λ (m : ℕ). run (onSaved j (accepted m (workScript (h .frame) (h .fields) (h .recs) j (j .done)))) saved) k,
-        ),
-      )
-
--- A STEP OF A BATCH
-pub named : (b : Batch) (k : ℕ) → names b k ≡ true → k < 8
-unfolding names
-named b k e = let p = both (leb (b .n) 8) (ltb k (b .n)) e in omega (arith, leb-true (b .n) 8 (p .0), ltb-true k (b .n) (p .1))
-
-accepted-same : (n : ℕ) (ps : List Patch) → ((n ≡ 0 → ⊥) → ps ≡ []) → accepted n ps ≡ ps
-accepted-same zero ps h = refl
-accepted-same (suc n) ps h = sym (h (λ e. omega arith))
-
-pub turned-to : {a c : Answer} {b d : Batch} → a ≡ c → b ≡ d → _≡_ {A = Turned} (record { answer = a; batch = b }) (record { answer = c; batch = d })
-turned-to e q = λ t. record { answer = e t; batch = q t }
-
-module _ (h : Handed) (b : Batch) (k : ℕ) (proj saved : List ℕ) where
-  pub unnamed : names b k ≡ false
-      → (_≡_ {A = Turned} (record { answer = Refused 12; batch = b }) (record { answer = answerOf (turnNumber h b k); batch = turnBatch h b k }))
-      × ((proj ≡ run (turnProj h b k) proj) × (saved ≡ run (turnSaved h b k) saved))
-  unfolding answerOf turnNumber turnBatch turnProj turnSaved run
-  unnamed e = rw e (refl, (refl, refl))
-
-  pub turned : names b k ≡ true → {s : Stepped} {t u : List ℕ}
-      → s ≡ record { answer = answerOf (stepNumber h (jobAt b k)); done = stepDone h (jobAt b k) }
-      → t ≡ run (stepProj h (jobAt b k)) proj → u ≡ run (stepSaved h (jobAt b k)) saved
-      → (_≡_ {A = Turned} (record { answer = s .answer; batch = counted b k (s .done) }) (record { answer = answerOf (turnNumber h b k); batch = turnBatch h b k }))
-      × ((t ≡ run (turnProj h b k) proj) × (u ≡ run (turnSaved h b k) saved))
-  unfolding turnNumber turnBatch turnProj turnSaved
-  turned e {s} q p g =
-      rw e (
-        turned-to (λ t. q t .answer) (λ t. counted b k (q t .done)),
-        (
-          p ∙ ap (λ (x : List Patch). run x proj) (sym (accepted-same (stepNumber h (jobAt b k)) _ (proj-none h (jobAt b k)))),
-          g ∙ ap (λ (x : List Patch). run x saved) (sym (accepted-same (stepNumber h (jobAt b k)) _ (saved-none h (jobAt b k)))),
         ),
       )

@@ -1,15 +1,13 @@
 -- A step (document 01, the order of refusals; "Jobs and windows"): 12, 1, 3, 4 and 5 of its job, then "done", then its own row's reads; then it writes.
 use Prim.Native.Nat.{ℕ, _+_}
-use mathlib.Core.Bool.{Bool, not, _&&_}
+use mathlib.Core.Bool.{not}
 use mathlib.Core.List.{List}
-use lib.Dec.{eqb, ltb, leb}
-use lib.ListN.{set}
+use lib.Dec.{eqb}
 use Rattle.ground.specs.Answer.{orElse, accepted}
 use Rattle.ground.specs.Pick.{pick}
 use Rattle.ground.specs.Script.{Patch}
 use Rattle.job.specs.declared.record.Job.{Job}
-use Rattle.job.specs.declared.record.Batch.{Batch}
-use Rattle.job.specs.Job.{jobAt, wellKind, countOf}
+use Rattle.job.specs.Job.{wellKind, countOf}
 use Rattle.work.specs.Work.{workRead, workScript, onProj, onSaved}
 use Rattle.jobs.specs.declared.step.Answer.{Answer}
 use Rattle.jobs.specs.declared.step.Answer.the-variants.{Moved, Done, Refused}
@@ -43,27 +41,3 @@ stepProj h j = onProj j (accepted (stepNumber h j) (workScript (h .frame) (h .fi
 
 unfoldable pub stepSaved : Handed → Job → List Patch
 stepSaved h j = onSaved j (accepted (stepNumber h j) (workScript (h .frame) (h .fields) (h .recs) j (j .done)))
-
--- the record with another number of steps done
-abbrev pub withDone : Job → ℕ → Job
-withDone j k = record { kind = j .kind; area = j .area; sby = j .sby; pass = j .pass; done = k }
-
--- and a batch with job k's
-abbrev pub counted : Batch → (k done : ℕ) → Batch
-counted b k done = record { n = b .n; jobs = set (b .jobs) k (withDone (jobAt b k) done) }
-
--- A STEP OF A BATCH, naming job k of it; a number that names none is refused
-unfoldable pub names : Batch → ℕ → Bool
-names b k = leb (b .n) 8 && ltb k (b .n)
-
-unfoldable pub turnNumber : Handed → Batch → ℕ → ℕ
-turnNumber h b k = pick (names b k) (stepNumber h (jobAt b k)) 12
-
-unfoldable pub turnProj : Handed → Batch → ℕ → List Patch
-turnProj h b k = accepted (turnNumber h b k) (stepProj h (jobAt b k))
-
-unfoldable pub turnSaved : Handed → Batch → ℕ → List Patch
-turnSaved h b k = accepted (turnNumber h b k) (stepSaved h (jobAt b k))
-
-unfoldable pub turnBatch : Handed → Batch → ℕ → Batch
-turnBatch h b k = pick (names b k) (counted b k (stepDone h (jobAt b k))) b

@@ -1,3 +1,3 @@
-// Batches of jobs: admitted together, and stepped in any order.
+// Jobs: a batch admitted together, and one step of a job.
 pub mod admit;
 pub mod step;

@@ -26,7 +26,8 @@ use Rattle.job.specs.declared.record.Job.{Job}
 use Rattle.job.specs.Job.{noJob, jobAt, isLoad, countOf}
 use Rattle.work.specs.Work.{onProj, onSaved}
 use Rattle.jobs.specs.Admit.{Handed, handed}
-use Rattle.jobs.specs.Step.{doneNumber, withDone, stepNumber, names}
+use Rattle.jobs.specs.Step.{doneNumber, stepNumber}
+use Rattle.turns.specs.Turn.{withDone, names}
 use Rattle.order.specs.Desk.{Given, Desk, handedBy, answerTo, turn, plays}
 use Rattle.order.specs.Demand.{Admitted, firstRows, doneBy, AnyOrder, Finishes, Whole, wholeLoad, wholeSave, allLoads, allSaves}
 use Rattle.order.proofs.Admission.{Fit, Accepted, accepted}

@@ -7,8 +7,9 @@ use native.Mathlib.Numerals.{add-one}
 use native.Mathlib.Omega.{arith}
 use lib.ListN.{length, getD, drop}
 use Rattle.ground.specs.Script.{run}
-use Rattle.jobs.specs.declared.step.Turned.{Turned}
-use Rattle.jobs.specs.Step.{answerOf, turnNumber, turnBatch, turnProj, turnSaved}
+use Rattle.jobs.specs.Step.{answerOf}
+use Rattle.turns.specs.declared.turn.Turned.{Turned}
+use Rattle.turns.specs.Turn.{turnNumber, turnBatch, turnProj, turnSaved}
 use Rattle.order.specs.Desk.{Given, Desk, desk, handedBy, turn, plays}
 
 next : (g : Given) (ks : List ℕ) (d : Desk) (i : ℕ) → i < length ks → plays g (drop i ks) d ≡ plays g (drop (suc i) ks) (turn g (getD ks i 0) d)

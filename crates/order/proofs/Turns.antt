@@ -22,7 +22,8 @@ use Rattle.job.specs.declared.record.Batch.{Batch}
 use Rattle.job.specs.Job.{noJob, jobAt, isLoad, wellKind, countOf, jobFront}
 use Rattle.work.specs.Work.{workRead, workScript, onProj, onSaved}
 use Rattle.jobs.specs.Admit.{Handed, lengthsIn, frontOf}
-use Rattle.jobs.specs.Step.{doneNumber, stepNumber, stepDone, stepProj, stepSaved, withDone, names, turnNumber, turnProj, turnSaved, turnBatch}
+use Rattle.jobs.specs.Step.{doneNumber, stepNumber, stepDone, stepProj, stepSaved}
+use Rattle.turns.specs.Turn.{withDone, names, turnNumber, turnProj, turnSaved, turnBatch}
 use Rattle.order.specs.Desk.{Given, Desk, handedBy, answerTo, turn}
 use Rattle.order.proofs.Admission.{Fit}
 

@@ -17,7 +17,8 @@ use Rattle.job.specs.Job.{jobAt, isLoad, windowIn, stripIn, countOf}
 use Rattle.job.specs.Share.{LoadCell, SaveCell}
 use Rattle.work.specs.Work.{workScript, onProj, onSaved}
 use Rattle.jobs.specs.Admit.{batchAnswer}
-use Rattle.jobs.specs.Step.{doneNumber, withDone}
+use Rattle.jobs.specs.Step.{doneNumber}
+use Rattle.turns.specs.Turn.{withDone}
 use Rattle.order.specs.Desk.{Given, Desk, handedBy, answerTo, turn}
 
 -- THE PREMISES: admission accepts the batch, and none of its jobs is stepped yet. That there are one to eight jobs is part of admission; a batch has eight places.

@@ -1,5 +1,5 @@
 -- The machine that demand 3 speaks of. A batch and the two buffers that its jobs write lie on a desk; a step names a job and leaves the desk as the contract of
--- `jobs::step::step_of` says.
+-- `turns::turn::step_of` says.
 use Prim.Native.Nat.{ℕ}
 use mathlib.Core.List.{List, [], _∷_}
 use lib.ListN.{length}
@@ -7,7 +7,7 @@ use Rattle.ground.specs.Script.{run}
 use Rattle.frame.specs.declared.record.Frame.{Frame}
 use Rattle.job.specs.declared.record.Batch.{Batch}
 use Rattle.jobs.specs.Admit.{Handed, handed}
-use Rattle.jobs.specs.Step.{turnNumber, turnBatch, turnProj, turnSaved}
+use Rattle.turns.specs.Turn.{turnNumber, turnBatch, turnProj, turnSaved}
 
 -- what admission and every step are handed alike: the frame's record, the present flags, the seven fields and the records; none of them is written
 pub record Given : Type 0 where

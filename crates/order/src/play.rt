@@ -1,7 +1,7 @@
 // A list of steps, each naming a job.
 use frame::record::Frame;
 use job::record::Batch;
-use jobs::step::step_of;
+use turns::turn::step_of;
 ghost use mathlib.Core.Path.{_≡_};
 ghost use Rattle.loading.specs.Load.{lent};
 ghost use Rattle.order.specs.Desk.{given, desk, plays};

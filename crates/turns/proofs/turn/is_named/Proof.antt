@@ -1,9 +1,9 @@
--- `jobs::step::is_named` meets its contract.
+-- `turns::turn::is_named` meets its contract.
 -- Assumes nothing.
 use borrow.Author.Tests.{le-leb, lt-leb}
-use Rattle.jobs.specs.Step.{names}
-use Rattle.jobs.proofs.step.is_named.Statement.{statement}
-use Rattle.jobs.proofs.step.is_named.Tie as tie
+use Rattle.turns.specs.Turn.{names}
+use Rattle.turns.proofs.turn.is_named.Statement.{statement}
+use Rattle.turns.proofs.turn.is_named.Tie as tie
 
 returns : tie.Need-returns
 unfolding names

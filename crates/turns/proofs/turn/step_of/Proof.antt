@@ -1,15 +1,15 @@
--- `jobs::step::step_of` meets its contract.
+-- `turns::turn::step_of` meets its contract.
 -- Assumes nothing.
 use mathlib.Core.Path.{refl, sym, _∙_}
 use lib.ListN.{length}
 use borrow.Author.Tests.{not-true, not-false}
 use denote.Ref.{now}
 use Rattle.loading.specs.Load.{lent}
 use Rattle.jobs.specs.Admit.{handed}
-use Rattle.jobs.proofs.Steps.{named, unnamed, turned-to, turned}
+use Rattle.turns.proofs.Turns.{named, unnamed, turned-to, turned}
 use borrow.Author.Needs.{needs}
-use Rattle.jobs.proofs.step.step_of.Statement.{statement}
-use Rattle.jobs.proofs.step.step_of.Tie as tie
+use Rattle.turns.proofs.turn.step_of.Statement.{statement}
+use Rattle.turns.proofs.turn.step_of.Tie as tie
 
 is-named-requires : tie.Need-is-named-requires
 is-named-requires c κs = search needs
@@ -25,8 +25,8 @@ mul-j c = let g = named (c .before .before .before .before .before .before .befo
 array-copy-out-j : tie.Need-array-copy-out-j
 array-copy-out-j c = named (c .before .before .before .before .before .before .before .before .before .before .before .before .before .args .batch) (c .before .before .before .before .before .before .before .before .before .before .before .before .before .args .k) (sym (c .before .before .is-named .ensures) ∙ not-false _ (c .before .if1 .left))
 
-step-row-requires : tie.Need-step-row-requires
-step-row-requires c κs = search needs
+step-owned-requires : tie.Need-step-owned-requires
+step-owned-requires c κs = search needs
 
 with-done-requires : tie.Need-with-done-requires
 with-done-requires c κs = named (c .before .before .before .before .before .before .before .before .before .before .before .before .before .before .before .before .before .before .before .before .before .args .batch) (c .before .before .before .before .before .before .before .before .before .before .before .before .before .before .before .before .before .before .before .before .before .args .k) (sym (c .before .before .before .before .before .before .before .before .before .before .is-named .ensures) ∙ not-false _ (c .before .before .before .before .before .before .before .before .before .if1 .left))
@@ -40,7 +40,7 @@ same-length-2 c = search needs
 returns-2 : tie.Need-returns-2
 returns-2 c =
     let s = c .before .before .before .before .before .before .before .before .before .before .before .before .before .before .before .before .before .before .before .before .before .before .args in
-    let r = c .before .before .before .before .before .step-row .ensures in
+    let r = c .before .before .before .before .before .step-owned .ensures in
     let z = turned (handed (s .f) (s .present) (lent (now (s .f0)) (now (s .f1)) (now (s .f2)) (now (s .f3)) (now (s .f4)) (now (s .f5)) (now (s .f6))) (now (s .recs)) (length (now (s .proj))) (length (now (s .saved)))) (s .batch) (s .k) (now (s .proj)) (now (s .saved)) (sym (c .before .before .before .before .before .before .before .before .before .before .before .is-named .ensures) ∙ not-false _ (c .before .before .before .before .before .before .before .before .before .before .if1 .left)) (r .0) (r .1 .0) (r .1 .1) in
     (turned-to refl (c .with-done .ensures) ∙ z .0, z .1)
 
@@ -52,7 +52,7 @@ step-of-spec =
     returns
     mul-j
     array-copy-out-j
-    step-row-requires
+    step-owned-requires
     with-done-requires
     same-length
     same-length-2
