@@ -1,7 +1,10 @@
-// One case: a search's answer, and what it leaves in the lent stack, count and context.
+// One case: a search's answer, and what it leaves in the lent stack, count and context; and the same
+// search over records.
 use crate::lend::ILL;
 use crate::lend::lay_cells;
 use crate::lend::lay_records;
+use crate::records::compare;
+use crate::records::records_in;
 use cases::lent::prepare;
 use finds::whole::find_into;
 use ground::read::one_at;
@@ -58,6 +61,8 @@ fn search_into(recs: &[u8], proj: &[u8], s: &[u8], stack: &mut [u8], out: &mut [
 {
     prepare(stack);
     prepare(out);
+    // Before the search writes to the bytes that both forms are lent.
+    let lent = records_in(stack);
     let answer = find_into(
         &s[..109],
         &s[109..277],
@@ -67,6 +72,7 @@ fn search_into(recs: &[u8], proj: &[u8], s: &[u8], stack: &mut [u8], out: &mut [
         stack,
         out,
     );
+    compare(recs, proj, s, lent, answer, stack, out);
     print::start(answer);
     show(answer, stack, out);
 }

@@ -3,6 +3,7 @@
 // both files, rust/README.md has their layout).
 mod case;
 mod lend;
+mod records;
 
 use lines::input;
 use lines::input::HEAD;

@@ -12,6 +12,9 @@ prepare-requires c κs = search needs
 prepare-requires-2 : tie.Need-prepare-requires-2
 prepare-requires-2 c κs = search needs
 
+records-in-requires : tie.Need-records-in-requires
+records-in-requires c κs = search needs
+
 slice-aggregate-find-into : tie.Need-slice-aggregate-find-into
 slice-aggregate-find-into c = simp length-take (omega arith)
 
@@ -36,6 +39,9 @@ part-find-into-end-2 c = search needs
 find-into-requires : tie.Need-find-into-requires
 find-into-requires c κs = (simp length-take (omega arith), search needs, search needs, search needs, search needs)
 
+compare-requires : tie.Need-compare-requires
+compare-requires c κs = search needs
+
 start-requires : tie.Need-start-requires
 start-requires c κs = search needs
 
@@ -57,6 +63,7 @@ search-into-spec =
     (tie.spec
     prepare-requires
     prepare-requires-2
+    records-in-requires
     slice-aggregate-find-into
     sub-find-into
     part-find-into-start
@@ -65,6 +72,7 @@ search-into-spec =
     part-find-into-start-2
     part-find-into-end-2
     find-into-requires
+    compare-requires
     start-requires
     show-requires
     same-length

@@ -1,0 +1,3 @@
+-- The candidate search over eight lent records.
+pub mod Each
+pub mod Plan
