@@ -32,7 +32,7 @@ use Rattle.candidates.specs.declared.plan.Answer.{Answer}
 use Rattle.candidates.specs.declared.plan.Answer.the-variants as answer
 use Rattle.candidates.specs.declared.plan.Plan.{Plan}
 use Rattle.candidates.specs.Each.{mapFrom}
-use Rattle.candidates.specs.Plan.{recorded, eight, planFor, lacking, foundIn, planOf, slotOf, stored}
+use Rattle.candidates.specs.Plan.{recorded, eight, answerOf, planFor, lacking, foundIn, planOf, slotOf, stored}
 use Rattle.candidates.proofs.Eaches.{mapFrom-none, getD-mapFrom, getD-past}
 
 -- one element more of a list changes what stands at its place alone
@@ -125,6 +125,16 @@ unfolding planOf foundIn
 small slots frame tile recs proj a =
     small-by slots (isRef (a .refs .second)) (findOf (frameAt frame) (tileAt tile) recs proj a) (lacking slots (length frame) (length tile))
     (λ e. enough slots (length frame) (length tile) e .0)
+
+-- THE ANSWER is the search's own, or 4
+answers : (compound : Bool) (r : Result) → planFor compound r .answer ≡ answerOf r
+unfolding planFor
+answers compound (refused n) = refl
+answers compound (got f) = refl
+
+pub plan-answers : (slots : ℕ) (frame tile recs proj : List ℕ) (a : Ask) → planOf slots frame tile recs proj a .answer ≡ answerOf (foundIn slots frame tile recs proj a)
+unfolding planOf
+plan-answers slots frame tile recs proj a = answers (isRef (a .refs .second)) (foundIn slots frame tile recs proj a)
 
 -- an answer says how many records are stored to
 abbrev isRefusal : Answer → Bool

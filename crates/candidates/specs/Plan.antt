@@ -15,6 +15,7 @@ use Rattle.stack.specs.Stack.{nobody}
 use Rattle.extra.specs.Lists.{isRef}
 use Rattle.front.specs.declared.ask.Ask.{Ask}
 use Rattle.search.specs.Find.{Result, refused, got, findOf}
+use Rattle.candidates.specs.declared.plan.Answer.{Answer}
 use Rattle.candidates.specs.declared.plan.Answer.the-variants.{Refused, Found}
 use Rattle.candidates.specs.declared.plan.Listing.{Listing}
 use Rattle.candidates.specs.declared.plan.Plan.{Plan}
@@ -28,15 +29,20 @@ recorded c = record { mv = c .mv; weight = c .weight % 2 ^ 32 }
 unfoldable pub eight : List Candidate → List Candidate
 eight l = tab (λ i. recorded (getD l i nobody)) 0 8
 
+-- an answer by its cases: a refusal's number, or, where the paper's number is 0, count and context
+abbrev pub answerOf : Result → Answer
+answerOf (refused n) = Refused n
+answerOf (got f) = Found (length (f .cands)) (f .context)
+
 -- THE RESULT BY VALUE, and how many records are stored to
 unfoldable pub planFor : Bool → Result → Plan
 planFor compound (refused n) =
-    record { n = 0; found = record { stack = eight []; count = 0; compound = compound; fill = zero }; answer = Refused n }
+    record { n = 0; found = record { stack = eight []; count = 0; compound = compound; fill = zero }; answer = answerOf (refused n) }
 planFor compound (got f) =
     record {
       n = 8;
       found = record { stack = eight (f .cands); count = length (f .cands); compound = compound; fill = f .fill };
-      answer = Found (length (f .cands)) (f .context);
+      answer = answerOf (got f);
     }
 
 -- fewer than eight records, or a frame record or a tile that is cut short: refusal 4, before anything is read

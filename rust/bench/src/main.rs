@@ -11,9 +11,23 @@ mod search;
 mod splat;
 mod timing;
 
+use std::env;
 use std::hint::black_box;
 use std::panic;
 use timing::Timing;
+
+type Part = (&'static str, fn() -> Vec<Timing>);
+
+/// All of them, or those that are named as arguments.
+const PARTS: [Part; 7] = [
+    ("frame", || vec![frame::setup()]),
+    ("row", || vec![rows::setup()]),
+    ("splat", splat::all),
+    ("load", load::all),
+    ("save", save::all),
+    ("batch", || vec![jobs::batch()]),
+    ("search", search::all),
+];
 
 fn main() {
     println!(
@@ -24,14 +38,13 @@ fn main() {
     );
     println!("| what | unit | ours, ns | the Rust, ns | ours / the Rust |");
     println!("|---|---|---|---|---|");
-    let mut timings: Vec<Timing> = vec![frame::setup(), rows::setup()];
-    timings.extend(splat::all());
-    timings.extend(load::all());
-    timings.extend(save::all());
-    timings.push(jobs::batch());
-    timings.extend(search::all());
-    for timing in timings {
-        println!("{timing}");
+    let asked: Vec<String> = env::args().skip(1).collect();
+    for (name, timings) in PARTS {
+        if asked.is_empty() || asked.iter().any(|part| part == name) {
+            for timing in timings() {
+                println!("{timing}");
+            }
+        }
     }
 }
 

@@ -45,6 +45,9 @@ fn a_proof_that_does_not_fit_the_code_shows_nothing() {
     let log = "/x/proofs/mv/Mv/is/Proof.antt:9:3: error: `add-i`: no `Need-add-i` that can be named from here
 /x/proofs/mv/Mv/is/Proof.antt:12:3: error: `returns`: the two types differ";
     assert!(!of_function(log));
+    assert!(!of_function(
+        "/x/proofs/mv/Mv/is/Proof.antt:9:3: error: `returns`: record `lts.After` has no field `before`"
+    ));
 }
 
 #[test]

@@ -10,6 +10,7 @@ mod find;
 mod frame;
 mod job;
 mod leaf;
+mod limits;
 mod list;
 mod load;
 mod question;

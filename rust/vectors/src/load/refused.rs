@@ -1,4 +1,7 @@
 use crate::damage::Damage;
+use crate::limits::COLUMNS;
+use crate::limits::ROWS;
+use crate::limits::TILE_ROWS;
 use crate::load::edges::cell;
 use crate::load::edges::window;
 use crate::load::question::FieldLen;
@@ -48,45 +51,22 @@ fn flags() -> Vec<LoadQuestion> {
 
 /// 16 rows and 17, cut or not; ends before their starts; the stride and one past it.
 fn rows_and_columns() -> Vec<LoadQuestion> {
-    let rows = [
-        [6, 22],
-        [6, 23],
-        [36, 52],
-        [36, 53],
-        [38, 55],
-        [6, 5],
-        [40, 39],
-        [0, u32::MAX],
-        [u32::MAX, 0],
-    ];
-    let columns = [
-        [30, 32],
-        [30, 33],
-        [7, 6],
-        [32, 31],
-        [33, 33],
-        [0, u32::MAX],
-        [u32::MAX, u32::MAX],
-    ];
     let mut questions = Vec::new();
-    questions.extend(rows.map(|rows| at(base(), [9, 14], rows)));
-    questions.extend(columns.map(|columns| at(base(), columns, [10, 20])));
+    questions.extend(ROWS.map(|rows| at(base(), [9, 14], rows)));
+    questions.extend(COLUMNS.map(|columns| at(base(), columns, [10, 20])));
     questions
 }
 
 /// With one tile thread any tile row is taken as the first.
 fn tile_rows() -> Vec<LoadQuestion> {
     let mut questions = Vec::new();
-    for (threads, tile_rows) in [
-        (1, vec![1, 2, i32::MAX as u32]),
-        (2, vec![1, 2, i32::MAX as u32, u32::MAX]),
-    ] {
+    for (threads, tile_rows) in TILE_ROWS {
         let frame = FrameQuestion::sized(200, 300, [2, threads, 1]);
         let question = LoadQuestion::new(frame, base().window);
         questions.extend(
             tile_rows
-                .into_iter()
-                .map(|tile_row| question.with(|question| question.window.tile_row = tile_row)),
+                .iter()
+                .map(|&tile_row| question.with(|question| question.window.tile_row = tile_row)),
         );
     }
     questions

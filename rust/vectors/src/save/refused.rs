@@ -1,4 +1,7 @@
 use crate::damage::Damage;
+use crate::limits::COLUMNS;
+use crate::limits::ROWS;
+use crate::limits::TILE_ROWS;
 use crate::question::FrameQuestion;
 use crate::record;
 use crate::save::accepted::frame;
@@ -64,44 +67,20 @@ fn ruined(field: u32) -> SaveQuestion {
 
 /// 16 rows and 17, cut or not; ends before their starts; the stride and one past it.
 fn rows_and_columns() -> Vec<SaveQuestion> {
-    let rows = [
-        [6, 22],
-        [6, 23],
-        [36, 52],
-        [36, 53],
-        [38, 55],
-        [40, 57],
-        [6, 5],
-        [40, 39],
-        [0, u32::MAX],
-        [u32::MAX, 0],
-    ];
-    let columns = [
-        [30, 32],
-        [30, 33],
-        [7, 6],
-        [32, 31],
-        [33, 33],
-        [0, u32::MAX],
-        [u32::MAX, u32::MAX],
-    ];
     let mut questions = Vec::new();
-    questions.extend(rows.map(|rows| at(base(), [3, 7], rows)));
-    questions.extend(columns.map(|columns| at(base(), columns, [6, 8])));
+    questions.extend(ROWS.map(|rows| at(base(), [3, 7], rows)));
+    questions.extend(COLUMNS.map(|columns| at(base(), columns, [6, 8])));
     questions
 }
 
 /// With one tile thread any tile row is taken as the first.
 fn tile_rows() -> Vec<SaveQuestion> {
     let mut questions = Vec::new();
-    for (threads, tile_rows) in [
-        (1, vec![1, 2, i32::MAX as u32]),
-        (2, vec![1, 2, i32::MAX as u32, u32::MAX]),
-    ] {
+    for (threads, tile_rows) in TILE_ROWS {
         let frame = FrameQuestion::sized(200, 100, [2, threads, 1]);
         let question = SaveQuestion::new(frame, place([3, 7], [6, 8]), base().filler);
         questions.extend(
-            tile_rows.into_iter().map(|tile_row| {
+            tile_rows.iter().map(|&tile_row| {
                 question.with(|question| question.place.window.tile_row = tile_row)
             }),
         );
