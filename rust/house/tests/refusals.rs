@@ -38,6 +38,9 @@ fn a_refusal_elsewhere_shows_nothing() {
     assert!(!of_function(
         "fn leaf::mv::Mv::is: not proved; it calls `leaf::mv::half`, which is not proved"
     ));
+    assert!(!of_function(
+        "/x/proofs/mv/Mv/is/Proof.antt:20:3: error: `returns`: `moved` was not admitted"
+    ));
 }
 
 #[test]
@@ -45,6 +48,9 @@ fn a_proof_that_does_not_fit_the_code_shows_nothing() {
     let log = "/x/proofs/mv/Mv/is/Proof.antt:9:3: error: `add-i`: no `Need-add-i` that can be named from here
 /x/proofs/mv/Mv/is/Proof.antt:12:3: error: `returns`: the two types differ";
     assert!(!of_function(log));
+    assert!(!of_function(
+        "/x/proofs/mv/Mv/is/Proof.antt:9:3: error: `Inv-loop`: expected type `ℕ`"
+    ));
     assert!(!of_function(
         "/x/proofs/mv/Mv/is/Proof.antt:9:3: error: `returns`: record `lts.After` has no field `before`"
     ));
