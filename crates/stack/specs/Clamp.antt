@@ -7,6 +7,7 @@ use Rattle.vector.specs.declared.mv.Mv.{Mv}
 use Rattle.cells.specs.declared.block.MvPair.{MvPair}
 use Rattle.stack.specs.declared.candidate.Candidate.{Candidate}
 use Rattle.stack.specs.declared.clamp.Reach.{Reach}
+use Rattle.stack.specs.declared.clamp.Bounds.{Bounds}
 use Rattle.stack.specs.Stack.{State, withCands}
 
 unfoldable pub clampedMv : Reach → Mv → Mv
@@ -28,3 +29,12 @@ lowest n = negℤ (pos (min n 32768))
 
 abbrev pub highest : ℕ → ℤ
 highest n = pos (min n 32767)
+
+abbrev pub boundsOf : Reach → Bounds
+boundsOf r = record { up = lowest (r .up); down = highest (r .down); left = lowest (r .left); right = highest (r .right) }
+
+unfoldable pub heldMv : Bounds → Mv → Mv
+heldMv b v = record { y = clip3 (b .up) (b .down) (v .y); x = clip3 (b .left) (b .right) (v .x) }
+
+abbrev pub heldPair : Bounds → MvPair → MvPair
+heldPair b p = record { first = heldMv b (p .first); second = heldMv b (p .second) }

@@ -6,11 +6,10 @@ use cells::block::MvPair;
 use vector::mv::Mv;
 ghost use mathlib.Core.Path.{_≡_};
 ghost use Prim.Native.Nat.{_≤_};
-ghost use lib.IntN.{pos, negℤ};
 ghost use Rattle.ground.specs.Sign.{clip3};
 ghost use Rattle.stack.specs.Stack.{view};
 ghost use Rattle.stack.specs.Numbers.{foundAt, Held};
-ghost use Rattle.stack.specs.Clamp.{lowest, highest, clampedMv, clampedPair, clamped};
+ghost use Rattle.stack.specs.Clamp.{lowest, highest, boundsOf, heldMv, heldPair, clamped};
 
 // How far a vector may point, in eighths of a sample: up, down, to the left and to the right.
 pub struct Reach {
@@ -18,6 +17,14 @@ pub struct Reach {
     pub down: u32,
     pub left: u32,
     pub right: u32,
+}
+
+// The least and the most that a component may be, of y and of x.
+struct Bounds {
+    up: i16,
+    down: i16,
+    left: i16,
+    right: i16,
 }
 
 // A reach as a component's bound, either way: it may lie past what a component holds.
@@ -33,33 +40,47 @@ fn high(n: u32) -> i16
     if n < 32768 { n as i16 } else { 32767 }
 }
 
-fn held(c: i16, back: u32, on: u32) -> i16
-    ensures { λ r. ⌜ r ≡ clip3 (negℤ (pos back)) (pos on) c ⌝ }
+// Once for all candidates.
+fn bounds_of(r: Reach) -> Bounds
+    ensures { λ b. ⌜ b ≡ boundsOf r ⌝ }
 {
-    let least = low(back);
+    let up = low(r.up);
+    let down = high(r.down);
+    let left = low(r.left);
+    let right = high(r.right);
+    Bounds {
+        up,
+        down,
+        left,
+        right,
+    }
+}
+
+fn held(c: i16, least: i16, most: i16) -> i16
+    ensures { λ r. ⌜ r ≡ clip3 least most c ⌝ }
+{
     if c < least {
         return least;
     }
-    let most = high(on);
     if most < c {
         return most;
     }
     c
 }
 
-fn clamp_mv(v: Mv, r: Reach) -> Mv
-    ensures { λ u. ⌜ u ≡ clampedMv r v ⌝ }
+fn clamp_mv(v: Mv, b: Bounds) -> Mv
+    ensures { λ u. ⌜ u ≡ heldMv b v ⌝ }
 {
-    let y = held(v.y, r.up, r.down);
-    let x = held(v.x, r.left, r.right);
+    let y = held(v.y, b.up, b.down);
+    let x = held(v.x, b.left, b.right);
     Mv { y, x }
 }
 
-fn clamp_pair(p: MvPair, r: Reach) -> MvPair
-    ensures { λ q. ⌜ q ≡ clampedPair r p ⌝ }
+fn clamp_pair(p: MvPair, b: Bounds) -> MvPair
+    ensures { λ q. ⌜ q ≡ heldPair b p ⌝ }
 {
-    let first = clamp_mv(p.first, r);
-    let second = clamp_mv(p.second, r);
+    let first = clamp_mv(p.first, b);
+    let second = clamp_mv(p.second, b);
     MvPair { first, second }
 }
 
@@ -68,10 +89,11 @@ pub fn clamp(s: &mut [u64], r: Reach)
     requires { ⌜ Held (now s) ⌝ }
     ensures { λ _. ⌜ Held (now (s .exit)) × (foundAt (now (s .exit)) .count ≡ foundAt (now (s .entry)) .count) × (view (foundAt (now (s .exit))) ≡ clamped r (view (foundAt (now (s .entry))))) ⌝ }
 {
+    let b = bounds_of(r);
     let n = count_in(s);
     let mut i: usize = 0;
     while i < n {
-        s[i] = pair_bits(clamp_pair(pair_in(s[i]), r));
+        s[i] = pair_bits(clamp_pair(pair_in(s[i]), b));
         i += 1;
     }
 }

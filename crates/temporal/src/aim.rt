@@ -129,9 +129,8 @@ pub fn zero_context(proj: &[u8], total: usize, i: usize, a: Aim, header: u8) -> 
         CellRead::Refused(_) => header,
         CellRead::Absent => header,
         CellRead::Of(c) => {
-            let den = distance_of(c.reference);
-            let v = take_towards(c.mv, a.first, den, a.integer, a.hp);
-            flag(is_far(v, a.gmv))
+            let p = pair_of(c, a);
+            flag(is_far(p.first, a.gmv))
         }
     }
 }
