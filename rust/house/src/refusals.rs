@@ -12,27 +12,60 @@ const LOOPS: [&str; 2] = ["Inv-", "μ-"];
 /// A fact that the proof files and the code agree on fails: in the function that is changed, or, where a
 /// definition is, anywhere.
 pub fn is_refused(log: &str, library: &str, wrong: &Wrong) -> bool {
+    let errors = errors(log);
     let Some(function) = &wrong.function else {
-        return log.lines().any(|line| failed(line).is_some());
+        return !errors.is_empty();
     };
     let file = format!("/proofs/{}/Proof.antt:", function.replace("::", "/"));
-    let own = log.lines().filter(|line| line.contains(&file));
-    let facts: Vec<&str> = own.filter_map(failed).collect();
-    let name = |fact: &str| fact.split('`').next().unwrap_or_default().to_string();
-    // What only follows from another refusal shows nothing.
-    let is_fact =
-        |fact: &&str| !name(fact).ends_with("-spec") && !fact.contains("was not admitted");
-    // Nor does a proof file that no longer fits the code.
-    let fits = |fact: &&str| {
-        !MISFITS.iter().any(|words| fact.contains(words))
-            && !LOOPS.iter().any(|start| name(fact).starts_with(start))
-    };
+    let own: Vec<&Fault> = errors
+        .iter()
+        .filter(|error| error.place.contains(&file))
+        .collect();
     let unproved = format!("fn {library}::{function}: no proof");
     let is_left = |line: &str| line.starts_with(&unproved) && line.contains("does not close");
-    (facts.iter().any(is_fact) && facts.iter().all(fits)) || log.lines().any(is_left)
+    (own.iter().any(|error| error.is_fact()) && own.iter().all(|error| error.fits()))
+        || log.lines().any(is_left)
 }
 
-/// What a line says of a fact that fails, from the fact's name on.
-fn failed(line: &str) -> Option<&str> {
-    line.split_once(": error: `").map(|(_, rest)| rest)
+/// Where something was refused, what it was, and what was said of it.
+struct Fault {
+    place: String,
+    name: String,
+    said: String,
+}
+
+impl Fault {
+    /// What only follows from another refusal shows nothing.
+    fn is_fact(&self) -> bool {
+        !self.name.ends_with("-spec") && !self.said.contains("was not admitted")
+    }
+
+    /// Nor does a proof file that no longer fits the code.
+    fn fits(&self) -> bool {
+        !MISFITS.iter().any(|words| self.said.contains(words))
+            && !LOOPS.iter().any(|start| self.name.starts_with(start))
+    }
+}
+
+/// What is said may go on in lines that stand further in.
+fn errors(log: &str) -> Vec<Fault> {
+    let mut errors: Vec<Fault> = Vec::new();
+    let mut goes_on = false;
+    for line in log.lines() {
+        if let Some((place, rest)) = line.split_once(": error: `") {
+            let (name, said) = rest.split_once('`').unwrap_or((rest, ""));
+            errors.push(Fault {
+                place: place.into(),
+                name: name.into(),
+                said: said.into(),
+            });
+            goes_on = true;
+        } else if goes_on && line.starts_with(' ') {
+            let last = errors.last_mut().expect("an error that goes on");
+            last.said.push_str(line);
+        } else {
+            goes_on = false;
+        }
+    }
+    errors
 }

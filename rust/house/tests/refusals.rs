@@ -54,6 +54,9 @@ fn a_proof_that_does_not_fit_the_code_shows_nothing() {
     assert!(!of_function(
         "/x/proofs/mv/Mv/is/Proof.antt:9:3: error: `returns`: record `lts.After` has no field `before`"
     ));
+    assert!(!of_function(
+        "/x/proofs/mv/Mv/is/Proof.antt:9:3: error: `returns`: record `lts.After`\n  has no field `before`"
+    ));
 }
 
 #[test]
