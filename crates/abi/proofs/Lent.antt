@@ -12,7 +12,7 @@ use Rattle.ground.specs.Put.{put}
 use Rattle.ground.specs.Script.{Patch, run}
 use Rattle.ground.proofs.Picks.{neither}
 use Rattle.ground.proofs.Answers.{run-accepted}
-use Rattle.abi.specs.Framed.{whole, initLacks}
+use Rattle.abi.specs.Framed.{whole, initLacks, listedLacks}
 use Rattle.abi.specs.Tiled.{splatLacks}
 use Rattle.abi.specs.Moved.{loadLacks}
 
@@ -43,6 +43,11 @@ refused-short t n ps l e = rw e (refl, refl)
 pub answered : (t : Bool) (n : ℕ) (ps : List Patch) (l : List ℕ) {a : ℕ} {m : List ℕ} → t ≡ false → a ≡ n → m ≡ run (accepted n ps) l
     → (a ≡ pick t 4 n) × (m ≡ run (accepted (pick t 4 n) ps) l)
 answered t n ps l e p q = rw e (p, q)
+
+-- parts of the listed sizes
+pub listed-room : (f n : ℕ) → listedLacks f n ≡ false → (109 ≤ f) × (12 ≤ n)
+unfolding listedLacks
+listed-room f n e = let q = neither (ltb f 109) _ e in (ltb-false f 109 (q .0), ltb-false n 12 (q .1))
 
 -- a splat's parts
 pub record Room (f t b : ℕ) : Type 0 where

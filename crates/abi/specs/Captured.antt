@@ -3,7 +3,6 @@ use Prim.Native.Nat.{ℕ}
 use mathlib.Core.Bool.{Bool}
 use mathlib.Core.List.{List}
 use lib.Dec.{ltb}
-use lib.ListN.{length}
 use Rattle.ground.specs.Answer.{accepted}
 use Rattle.ground.specs.Little.{fours}
 use Rattle.ground.specs.Pick.{pick}

@@ -39,8 +39,12 @@ checked frame = pick (shortFrame (length frame)) 4 (checkAnswer (frameAt frame))
 unfoldable pub listedBytes : Listed → List ℕ
 listedBytes r = fours (r .saved ∷ r .projected ∷ r .records ∷ [])
 
+-- by the lengths of the frame and of the part lent for the sizes
+unfoldable pub listedLacks : (frame sizes : ℕ) → Bool
+listedLacks frame sizes = shortFrame frame || ltb sizes 12
+
 unfoldable pub listedAnswer : List ℕ → ℕ → ℕ
-listedAnswer frame n = pick (shortFrame (length frame) || ltb n 12) 4 (listedOf (frameAt frame) .answer)
+listedAnswer frame n = pick (listedLacks (length frame) n) 4 (listedOf (frameAt frame) .answer)
 
 unfoldable pub listedScript : List ℕ → ℕ → List Patch
 listedScript frame n = accepted (listedAnswer frame n) (whole (listedBytes (listedOf (frameAt frame))))

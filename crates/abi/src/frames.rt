@@ -20,7 +20,7 @@ ghost use Rattle.hints.specs.Description.{setupAnswer};
 ghost use Rattle.frame.specs.Record.{frameOf};
 ghost use Rattle.layout.specs.DescriptionBytes.{described};
 ghost use Rattle.layout.specs.FrameBytes.{frameBytes};
-ghost use Rattle.abi.specs.Framed.{whole, initLacks, initAnswer, initScript, checked, listedBytes, listedAnswer, listedScript};
+ghost use Rattle.abi.specs.Framed.{whole, initLacks, initAnswer, initScript, checked, listedLacks, listedBytes, listedAnswer, listedScript};
 
 const HINTS: usize = 7;
 
@@ -128,16 +128,22 @@ fn put_listed(s: &mut [u8], r: Listed)
     put_sizes(s, 0, &numbers);
 }
 
+fn listed_lacks(frame: usize, sizes: usize) -> bool
+    ensures { λ r. ⌜ r ≡ listedLacks frame sizes ⌝ }
+{
+    if frame < FRAME {
+        return true;
+    }
+    sizes < LISTED
+}
+
 // How much a caller has to lend: cells of a saved field, cells of the projection, records.
 #[no_mangle]
 pub extern "C" fn jaskkovir_listed_sizes(frame: &[u8], sizes: &mut [u8]) -> u8
     ensures { λ r. ⌜ r ≡ listedAnswer (now (frame .entry)) (length (now (sizes .entry))) ⌝ }
     ensures { λ _. ⌜ now (sizes .exit) ≡ run (listedScript (now (frame .entry)) (length (now (sizes .entry)))) (now (sizes .entry)) ⌝ }
 {
-    if frame.len() < FRAME {
-        return 4;
-    }
-    if sizes.len() < LISTED {
+    if listed_lacks(frame.len(), sizes.len()) {
         return 4;
     }
     let listed = listed_sizes(frame_at(frame));

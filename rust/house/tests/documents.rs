@@ -17,11 +17,10 @@ fn none(faults: Vec<String>) {
     assert!(faults.is_empty(), "\n{}", faults.join("\n"));
 }
 
-/// A definition, and two wrong programs, or those of another row, or why there are none.
+/// A definition, and two wrong programs with the edits that show them, or why there are none.
 fn is_whole(row: &Row) -> bool {
-    let wrong = &row.wrong;
-    !row.definition.is_empty()
-        && (wrong.contains("; ") || wrong.starts_with("as ") || wrong.starts_with('('))
+    let shown = row.wrong.contains("; ") && row.edits.len() >= 2;
+    !row.definition.is_empty() && (shown || row.wrong.starts_with('('))
 }
 
 #[test]

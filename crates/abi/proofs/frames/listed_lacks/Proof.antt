@@ -1,0 +1,17 @@
+-- `abi::frames::listed_lacks` meets its contract.
+-- Assumes nothing.
+use Rattle.abi.specs.Framed.{listedLacks}
+use Rattle.ground.proofs.Tests.{tests}
+use Rattle.abi.proofs.frames.listed_lacks.Statement.{statement}
+use Rattle.abi.proofs.frames.listed_lacks.Tie as tie
+
+returns : tie.Need-returns
+unfolding listedLacks
+returns c = search tests
+
+returns-2 : tie.Need-returns-2
+unfolding listedLacks
+returns-2 c = search tests
+
+pub listed-lacks-spec : {M : Type 1} → statement M
+listed-lacks-spec = tie.close (tie.spec returns returns-2)
