@@ -30,7 +30,7 @@ use Rattle.extra.specs.Lists.{isRef, listsOf, listOf, allOf, extendedBy}
 use Rattle.extra.specs.Pool.{nothing, pairAt, least, completed}
 use Rattle.extra.specs.Walk.{Gathering, onRead, singleOn, onGathering}
 use Rattle.extra.specs.Walk as walks
-use Rattle.extra.proofs.Weights.{two-more, completed-two}
+use Rattle.extra.proofs.Lengths.{two-more, completed-two}
 use Rattle.search.specs.Extend.{extraLimit, singleWhere, singleExtra, compoundWhere, completing, compoundExtra, extraOf}
 use Rattle.answers.specs.Sound.{AllGe, InParts}
 use Rattle.answers.proofs.Least.{ge-append}

@@ -21,8 +21,8 @@ use Rattle.layout.specs.TileBytes.{tileAt}
 use Rattle.stack.specs.declared.candidate.Candidate.{Candidate}
 use Rattle.stack.specs.Stack.{Found, nobody, live}
 use Rattle.stack.specs.Numbers.{candAt, foundAt, Held}
-use Rattle.stack.proofs.Adds.{live-length}
-use Rattle.stack.proofs.Helds.{stack-long, cand-is}
+use Rattle.stack.proofs.Adds.{in-use}
+use Rattle.stack.proofs.Helds.{cand-is}
 use Rattle.extra.specs.Lists.{isRef}
 use Rattle.front.specs.declared.ask.Ask.{Ask}
 use Rattle.search.specs.declared.find.Findings.{Findings}
@@ -77,7 +77,7 @@ module _ (s : List ℕ) (h : Held s) (i : ℕ) {t : List Candidate} (e : t ≡ e
       rw (e, g, add-one i, ← r) (laid (live (foundAt s)) i (omega arith))
 
   pub all-laid : i ≡ foundAt s .count → t ≡ eight (live (foundAt s))
-  all-laid n = e ∙ ap eight (take-all i (live (foundAt s)) (omega (arith, live-length (foundAt s) (stack-long s) (h .room))))
+  all-laid n = e ∙ ap eight (take-all i (live (foundAt s)) (omega (arith, in-use s h)))
 
 -- what is made of a refusal, and of what was found
 pub refuses : (compound : Bool) (n : ℕ) {c : Candidate} → c ≡ nobody
@@ -89,7 +89,7 @@ pub accepts : (r : Findings) (s : List ℕ) → Held s → r .answer ≡ 0 → (
     → _≡_ {A = Plan} (record { n = 8; found = record { stack = l; count = n; compound = compound; fill = r .fill }; answer = answer.Found n (r .context) })
     (planFor compound (finding r (foundAt s)))
 unfolding planFor
-accepts r s h z compound e k = rw (is-got r (foundAt s) z, e, k, live-length (foundAt s) (stack-long s) (h .room))
+accepts r s h z compound e k = rw (is-got r (foundAt s) z, e, k, in-use s h)
 
 -- nothing is lacking
 pub enough : (slots frame tile : ℕ) → lacking slots frame tile ≡ false → (8 ≤ slots) × (109 ≤ frame) × (168 ≤ tile)

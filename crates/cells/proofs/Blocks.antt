@@ -2,21 +2,26 @@
 -- Assumes nothing.
 use mathlib.Core.Path.{_≡_, refl, sym, ap, ap₂, _∙_}
 use mathlib.Core.Logic.{_⊎_}
+use mathlib.Core.Bool.{true, _&&_}
 use mathlib.Core.List.{List, _++_}
 use Prim.Native.Nat.{ℕ, _+_, _*_, _^_, _≤_, _<_}
 use native.Mathlib.Omega.{arith}
-use lib.IntN.{ℤ}
+use lib.Dec.{leb}
+use lib.IntN.{ℤ, pos, negsuc}
 use lib.ListN.{length, getD}
 use lib.Signed.{mag}
+use borrow.Author.Tests.{leb-true}
 use mir.Syntax.{w8}
 use Rattle.ground.specs.Put.{put}
+use Rattle.ground.specs.Sign.{fromTo}
 use Rattle.ground.specs.Twos.{twos8}
 use Rattle.ground.proofs.Bits.{same}
+use Rattle.ground.proofs.Picks.{both}
 use Rattle.ground.proofs.Puts.{put-append, put-length, put-inside}
 use Rattle.vector.specs.Vector.{mvAt, mvBytes}
 use Rattle.vector.specs.declared.mv.Mv.{Mv}
 use Rattle.vector.proofs.Vectors.{Fits, mv-back, mv-outside}
-use Rattle.cells.specs.Block.{blockAt, tailBytes, blockBytes}
+use Rattle.cells.specs.Block.{blockAt, tailBytes, blockBytes, boundTo, wellBlock}
 use Rattle.cells.specs.declared.block.RefPair.{RefPair}
 use Rattle.cells.specs.declared.block.Block.{Block}
 
@@ -40,6 +45,27 @@ pub record Held (b : Block) : Type 0 where
   pub second : Fits (b .mv .second)
   pub one : mag (b .refs .first .0) < 2 ^ 7
   pub two : mag (b .refs .second .0) < 2 ^ 7
+
+-- what a well formed record has
+pub record Well (b : Block) : Type 0 where
+  pub code : b .bs ≤ 21
+  pub first : boundTo (b .mv .first) (b .refs .first) ≡ true
+  pub second : boundTo (b .mv .second) (b .refs .second) ≡ true
+
+pub well-is : (b : Block) → wellBlock b ≡ true → Well b
+unfolding wellBlock
+well-is b e =
+    let r = b .refs in
+    let one = leb (b .bs) 21 in
+    let two = leb (b .mf) 3 in
+    let three = fromTo (pos 0) (pos 7) (r .first .0) in
+    let four = fromTo (negsuc 0) (pos 7) (r .second .0) in
+    let five = boundTo (b .mv .first) (r .first) in
+    let h5 = both (one && two && three && four && five) (boundTo (b .mv .second) (r .second)) e in
+    let h4 = both (one && two && three && four) five (h5 .0) in
+    let h3 = both (one && two && three) four (h4 .0) in
+    let h2 = both (one && two) three (h3 .0) in
+    record { code = leb-true (b .bs) 21 (both one two (h2 .0) .0); first = h4 .1; second = h5 .1 }
 
 -- a record that was laid down, and read again
 pub block-back : (l : List ℕ) (i : ℕ) (b : Block) → 12 * i + 12 ≤ length l → Held b → blockAt (put l (12 * i) (blockBytes b)) i ≡ b

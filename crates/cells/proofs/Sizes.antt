@@ -1,11 +1,13 @@
--- Every size is 1 to 32 units wide and high: a test that the checker computes over the table, once. And what the `_` of the match knows.
+-- Every size is 1 to 32 units wide and high, and every code up to 21 has one: tests that the checker computes over the table, once. And what the `_` of the match knows.
 -- Assumes nothing.
-use mathlib.Core.Path.{_≡_, refl, subst}
-use mathlib.Core.Bool.{Bool, true, false, _&&_, and-eq-true-iff}
+use mathlib.Core.Path.{_≡_, refl, sym, ap, _∙_, subst}
+use mathlib.Core.Bool.{Bool, true, false, _&&_, and-eq-true-iff, true≢false}
 use Prim.Native.Nat.{ℕ, zero, suc, _≤_}
 use native.Mathlib.Omega.{arith}
 use lib.Dec.{T, leb}
 use borrow.Author.Tests.{leb-true}
+use Rattle.ground.specs.Below.{allBelow}
+use Rattle.ground.proofs.Belows.{at}
 use Rattle.ground.proofs.Tables.{anywhere}
 use Rattle.cells.specs.Size.{sizeOf, sizes}
 use Rattle.cells.specs.declared.size.Dims.{Dims}
@@ -47,6 +49,23 @@ narrow n d e =
       some-h = leb-true 1 (d .h .0) (g .0);
       few-h = leb-true (d .h .0) 32 (g .1);
     }
+
+-- every code up to 21 has a size: a test that the checker computes over the codes, once
+has-size : Sized → Bool
+has-size (Of d) = true
+has-size Refused = false
+
+all-sized : allBelow 22 (λ n. has-size (sizeOf n)) ≡ true
+unfolding allBelow has-size sizeOf
+all-sized = refl
+
+pub size-is : (code : ℕ) → code ≤ 21 → (d : Dims) × (sizeOf code ≡ Of d)
+unfolding has-size
+size-is code h = by (sizeOf code) refl (at (λ n. has-size (sizeOf n)) 22 code all-sized (omega arith))
+  where
+    by : (z : Sized) → sizeOf code ≡ z → has-size (sizeOf code) ≡ true → (d : Dims) × (sizeOf code ≡ Of d)
+    by (Of d) e t = (d, e)
+    by Refused e t = absurd (true≢false (sym t ∙ ap has-size e))
 
 -- no key of a match on 0, 1, .., k - 1 is n: in the form in which the check hands it over
 abbrev pub Miss : ℕ → ℕ → Type 0

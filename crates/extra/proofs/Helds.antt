@@ -15,9 +15,6 @@ use Rattle.cells.specs.declared.block.MvPair.{MvPair}
 use Rattle.stack.specs.declared.candidate.Candidate.{Candidate}
 use Rattle.stack.specs.Stack.{State, withCands, nobody, eqPair}
 use Rattle.stack.specs.Stack as stack
-use Rattle.stack.specs.Numbers.{foundAt, viewAt, countAt, Held}
-use Rattle.stack.proofs.Adds.{live-length}
-use Rattle.stack.proofs.Helds.{stack-long}
 use Rattle.extra.specs.declared.pool.Two.{Two}
 use Rattle.extra.specs.Pool.{heldIn, least, completed}
 
@@ -56,11 +53,6 @@ module _ (t : Two) where
       by zero l = refl
       by (suc zero) l = refl
       by (suc (suc n)) l = absurd (omega arith)
-
--- the numbers hold as many candidates as they count
-pub how-many : (l : List ℕ) → Held l → length (viewAt l .cands) ≡ countAt l
-unfolding stack.view
-how-many l h = live-length (foundAt l) (stack-long l) (h .room)
 
 -- both pairs, or one of them behind the one candidate
 module _ (p q : MvPair) (s : State) where

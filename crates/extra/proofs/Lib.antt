@@ -2,4 +2,4 @@
 pub mod Turns
 pub mod Helds
 pub mod Walks
-pub mod Weights
+pub mod Lengths

@@ -18,8 +18,8 @@ use Rattle.vector.specs.Vector.{mvBytes}
 use Rattle.stack.specs.declared.candidate.Candidate.{Candidate}
 use Rattle.stack.specs.Stack.{live, nobody}
 use Rattle.stack.specs.Numbers.{candAt, foundAt, Held}
-use Rattle.stack.proofs.Adds.{live-length}
-use Rattle.stack.proofs.Helds.{stack-long, cand-is}
+use Rattle.stack.proofs.Adds.{in-use}
+use Rattle.stack.proofs.Helds.{cand-is}
 use Rattle.finds.specs.Store.{secondPatch, candidatePatches, candidatesScript, fillPatch, fillsScript}
 
 -- what lies above a number's low byte, and above its four
@@ -77,7 +77,7 @@ module _ (compound : Bool) where
 
     pub all-laid : i ≡ foundAt s .count → t ≡ run (candidatesScript compound (live (foundAt s))) l
     unfolding candidatesScript
-    all-laid n = stop (candidateOf (live (foundAt s))) 0 i (length (live (foundAt s))) (omega (arith, live-length (foundAt s) (stack-long s) (h .room))) l e
+    all-laid n = stop (candidateOf (live (foundAt s))) 0 i (length (live (foundAt s))) (omega (arith, in-use s h)) l e
 
   pub candidates-inside : (l : List Candidate) → length l ≤ 8 → Inside 0 96 (candidatesScript compound l)
   unfolding candidatesScript candidatePatches

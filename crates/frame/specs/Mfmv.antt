@@ -15,7 +15,7 @@ use Rattle.frame.specs.declared.mfmv.Ref2Cur.{Ref2Cur}
 use Rattle.frame.specs.declared.mfmv.Ref2Cur.the-variants.{Skipped, At}
 use Rattle.hints.specs.Description.{under, hintAt, heldAt}
 use Rattle.hints.specs.Distances.{seven, fromCurrent}
-use Rattle.hints.specs.Selection.{last2Frame, bwdrefFrame, altrefFrame, selectable}
+use Rattle.hints.specs.Selection.{last2Frame, selectable}
 
 -- MAX_FRAME_DISTANCE: cells of a reference further off are never projected
 unfoldable pub far : ℤ → Bool

@@ -1,23 +1,19 @@
 -- What a question that is not refused tells: of the frame and the buffers, of the block in its tile, of the references and the global vectors.
 -- Assumes nothing.
 use mathlib.Core.Path.{_≡_, refl, sym, ap, _∙_}
-use mathlib.Core.Bool.{Bool, true, false, _&&_, _||_, not, true≢false}
+use mathlib.Core.Bool.{Bool, true, false, _&&_, _||_, not}
 use Prim.Native.Nat.{ℕ, _*_, _^_, _≤_, _<_, zero-le}
 use native.Mathlib.Omega.{arith}
-use lib.Dec.{eqb, leb, ltb}
-use lib.IntN.{pos, negsuc}
-use borrow.Author.Tests.{leb-true, ltb-true, ltb-false, eqb-true, ne-eqb, not-false}
+use lib.Dec.{leb, ltb}
+use borrow.Author.Tests.{leb-true, ltb-true, ltb-false, ne-eqb, not-false}
 use Rattle.ground.specs.Pick.{pick}
-use Rattle.ground.specs.Sign.{fromTo, eqZ}
 use Rattle.ground.proofs.Answers.{refused-not}
-use Rattle.ground.proofs.Bits.{eqZ-is}
 use Rattle.ground.proofs.Picks.{both}
 use Rattle.vector.specs.declared.mv.Mv.{Mv}
 use Rattle.vector.specs.Vector.{zero, Within, within}
 use Rattle.vector.proofs.Vectors.{within-is}
 use Rattle.cells.specs.declared.cell.Ref.{Ref}
-use Rattle.cells.specs.declared.block.RefPair.{RefPair}
-use Rattle.cells.proofs.Sizes.{Narrow, narrow}
+use Rattle.cells.proofs.Sizes.{Narrow, narrow, size-is}
 use Rattle.extent.specs.declared.sizes.Sizes.{Sizes}
 use Rattle.frame.specs.declared.record.Frame.{Frame}
 use Rattle.frame.specs.Record.{wellFrame}
@@ -29,7 +25,6 @@ use Rattle.rows.specs.declared.setup.Tile.{Tile}
 use Rattle.splats.specs.Splat.{holds}
 use Rattle.rows.proofs.Parts.{blocks-fit}
 use Rattle.site.specs.Site.{Placed}
-use Rattle.neighbours.proofs.Known.{size-is}
 use Rattle.extra.specs.Lists.{isRef}
 use Rattle.front.specs.declared.ask.Ask.{Ask}
 use Rattle.front.specs.Ask.{flagged, paired, bounded, boundedRefs, askable, findFront, fillingOf, globalOf, dimsOf, siteOf}
@@ -69,10 +64,6 @@ passed f t a nrecs nproj e =
           let z = sym (ap (λ (b : Bool). pick b 0 (pick (ltb nproj (5 * projectedCells (f .sizes))) 4 0)) (ne-eqb (f .«use_ref_frame_mvs») 0 on)) ∙ p4 .1 in
           ltb-false nproj (5 * projectedCells (f .sizes)) (refused-not (ltb nproj (5 * projectedCells (f .sizes))) 3 0 z .0);
     }
-
--- and one that does answers a number that is no acceptance
-pub refusal-some : (f : Frame) (t : Tile) (a : Ask) (nrecs nproj : ℕ) → (findFront f t a nrecs nproj ≡ 0 → ⊥) → 1 ≤ findFront f t a nrecs nproj
-refusal-some f t a nrecs nproj h = omega arith
 
 -- a place that a tile's range holds
 pub record Held (most : ℕ) (r : TileRange) (p : ℕ) : Type 0 where
@@ -154,29 +145,3 @@ module _ (s : Sizes) (col row : TileRange) (temporal : ℕ) (a : Ask) (e : askab
   global-near =
       let b = both (bounded (a .refs .first) (a .gmv .first)) (bounded (a .refs .second) (a .gmv .second)) (asked s col row temporal a e .near) in
       (filling-near (a .refs .first) (a .gmv .first) (b .0), filling-near (a .refs .second) (a .gmv .second) (b .1))
-
--- the references that may be asked for
-none-no-ref : (r : Ref) → eqZ (r .0) (negsuc 0) ≡ true → isRef r ≡ false
-unfolding isRef fromTo
-none-no-ref r e = rw (eqZ-is (r .0) (negsuc 0) .1 e)
-
-pub record Alone (refs : RefPair) (temporal : ℕ) : Type 0 where
-  pub off : temporal ≡ 0
-  pub single : isRef (refs .second) ≡ false
-
-pub intra-alone : (refs : RefPair) (temporal : ℕ) → paired refs temporal ≡ true → isRef (refs .first) ≡ false → Alone refs temporal
-unfolding paired
-intra-alone refs temporal e n =
-    let k = rw n at e in
-    let h = both (eqZ (refs .first .0) (pos 0) && eqZ (refs .second .0) (negsuc 0)) (eqb temporal 0) k in
-    record {
-      off = eqb-true temporal 0 (h .1);
-      single = none-no-ref (refs .second) (both (eqZ (refs .first .0) (pos 0)) (eqZ (refs .second .0) (negsuc 0)) (h .0) .1);
-    }
-
-pub second-first : (refs : RefPair) (temporal : ℕ) → paired refs temporal ≡ true → isRef (refs .second) ≡ true → isRef (refs .first) ≡ true
-second-first refs temporal e s = by (isRef (refs .first)) refl
-  where
-    by : (b : Bool) → isRef (refs .first) ≡ b → b ≡ true
-    by true n = refl
-    by false n = absurd (true≢false (sym s ∙ intra-alone refs temporal e n .single))

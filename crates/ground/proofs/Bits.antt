@@ -65,9 +65,6 @@ module _ {w : Width} (w′ : Width) {z : ℤ} (narrower : T (leb (hbits w) (hbit
   pub widens : SFits w′ (toZ w (ofZ w z))
   widens = subst⁻¹ (SFits w′) (toZ-ofZ fits) (sfits-widen narrower fits)
 
-  pub widened : toZ w′ (ofZ w′ (toZ w (ofZ w z))) ≡ z
-  widened = back (toZ-ofZ fits) (sfits-widen narrower fits)
-
 -- what a test `z < 0` tells of the magnitude, and of the bits with each flipped, code's `!x`
 pub record Negative (w : Width) (z : ℤ) : Type 0 where
   pub flipped : toZ w (2 ^ bits w - 1 - ofZ w z) ≡ pos (natAbs z - 1)

@@ -26,7 +26,7 @@ use Rattle.cells.proofs.Cells.{cell-outside, cell-back, saved-moves}
 use Rattle.vector.proofs.Vectors.{Fits}
 use Rattle.saving.specs.declared.area.Window.{Window}
 use Rattle.landing.specs.declared.land.Motion.{Motion}
-use Rattle.landing.specs.Lands.{refOffset, rowTo, colTo, between, group, reaches, moves, lands, leaves, spot, laid, landing}
+use Rattle.landing.specs.Lands.{refOffset, rowTo, colTo, between, group, reaches, moves, lands, leaves, spot, landing}
 use Rattle.landing.specs.Row.{firstSource, endSource, lane, rowScript, wipe, clearRow}
 use Rattle.landing.specs.Targets.{landsAt, rowSeen, Outside}
 use Rattle.landing.specs.Places.{Bounded, Numbers, Sound}

@@ -1,13 +1,13 @@
 -- Numbers in bytes by place: two lists that agree on their first bytes hold the same there, and a list laid at the start is read again.
 -- Assumes nothing.
-use mathlib.Core.Path.{_≡_, refl, sym, ap, _∙_}
+use mathlib.Core.Path.{_≡_, sym, ap, _∙_}
 use mathlib.Core.List.{List, [], _∷_, _++_}
 use Prim.Native.Nat.{ℕ, zero, suc, _+_, _*_, _/_, _%_, _^_, _≤_, _<_}
 use native.Mathlib.Nat.{zero-add}
 use native.Mathlib.Omega.{arith}
 use lib.IntN.{ℤ}
 use lib.ListN.{length, getD}
-use lib.Seq.{ext-getD, getD-append-add}
+use lib.Seq.{getD-append-add}
 use lib.Signed.{mag}
 use mir.Syntax.{w16}
 use Rattle.ground.specs.Put.{put}
@@ -16,8 +16,6 @@ use Rattle.ground.specs.Little.{fourAt, fourBytes, fours}
 use Rattle.ground.proofs.Puts.{put-inside}
 use Rattle.ground.proofs.Littles.{four-whole}
 use Rattle.ground.proofs.Bits.{same}
-use Rattle.ground.specs.Tab.{tab}
-use Rattle.ground.proofs.Tabs.{tab-at}
 
 -- two lists with the same first n bytes
 abbrev pub Agree : List ℕ → List ℕ → ℕ → Type 0

@@ -1,5 +1,5 @@
 -- What the code of a load holds and requires: its uses put together one after the other, and what an admission shows of their fields.
-use Prim.Native.Nat.{ℕ, _+_, _-_, _*_, _≤_, _<_}
+use Prim.Native.Nat.{ℕ, _+_, _*_, _≤_, _<_}
 use mathlib.Core.List.{List}
 use lib.ListN.{getD, set}
 use Rattle.frame.specs.declared.mfmv.Mfmv.{Mfmv}

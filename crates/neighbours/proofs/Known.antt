@@ -1,26 +1,20 @@
 -- What is known of a neighbour that was read, and of the number of a refusal.
 -- Assumes nothing.
-use mathlib.Core.Path.{_≡_, refl, sym, ap, _∙_, subst}
-use mathlib.Core.Bool.{Bool, true, false, _&&_, not, true≢false}
+use mathlib.Core.Path.{_≡_, refl, sym, _∙_, subst}
+use mathlib.Core.Bool.{Bool, true, false, not}
 use mathlib.Core.List.{List}
 use mathlib.Core.Logic.{_⊎_, inl, inr}
 use Prim.Native.Nat.{ℕ, _+_, _≤_}
 use native.Mathlib.Omega.{arith}
-use lib.Dec.{ltb, leb}
-use lib.IntN.{pos, negsuc}
-use borrow.Author.Tests.{leb-true}
+use lib.Dec.{ltb}
 use Rattle.ground.specs.Pick.{pick}
-use Rattle.ground.specs.Sign.{fromTo}
-use Rattle.ground.specs.Below.{allBelow}
-use Rattle.ground.proofs.Belows.{at}
-use Rattle.ground.proofs.Picks.{both}
 use Rattle.cells.specs.declared.block.Block.{Block}
 use Rattle.cells.specs.declared.size.Dims.{Dims}
-use Rattle.cells.specs.declared.size.Sized.{Sized}
 use Rattle.cells.specs.declared.size.Sized.the-variants as sized-as
-use Rattle.cells.specs.Block.{blockAt, boundTo, wellBlock}
+use Rattle.cells.specs.Block.{blockAt, wellBlock}
 use Rattle.cells.specs.Size.{sizeOf}
-use Rattle.cells.proofs.Sizes.{narrow}
+use Rattle.cells.proofs.Sizes.{narrow, size-is}
+use Rattle.cells.proofs.Blocks.{well-is}
 use Rattle.rows.specs.declared.table.Place.{Place}
 use Rattle.rows.specs.declared.table.Place.the-variants.{Absent, At}
 use Rattle.rows.specs.declared.table.RowEntry.{RowEntry}
@@ -83,43 +77,10 @@ is-some {n = n} t e o = some (subst Told (sym e ∙ o) t)
     some (inr (inl h)) = omega arith
     some (inr (inr h)) = omega arith
 
--- every code up to 21 has a size: a test that the checker computes over the codes, once
-has-size : Sized → Bool
-has-size (sized-as.Of d) = true
-has-size sized-as.Refused = false
-
-all-sized : allBelow 22 (λ n. has-size (sizeOf n)) ≡ true
-unfolding allBelow has-size sizeOf
-all-sized = refl
-
-pub size-is : (code : ℕ) → code ≤ 21 → (d : Dims) × (sizeOf code ≡ sized-as.Of d)
-unfolding has-size
-size-is code h = by (sizeOf code) refl (at (λ n. has-size (sizeOf n)) 22 code all-sized (omega arith))
-  where
-    by : (z : Sized) → sizeOf code ≡ z → has-size (sizeOf code) ≡ true → (d : Dims) × (sizeOf code ≡ sized-as.Of d)
-    by (sized-as.Of d) e t = (d, e)
-    by sized-as.Refused e t = absurd (true≢false (sym t ∙ ap has-size e))
-
--- the first of a well formed record's tests
-well-code : (b : Block) → wellBlock b ≡ true → b .bs ≤ 21
-unfolding wellBlock
-well-code b e =
-    let r = b .refs in
-    let one = leb (b .bs) 21 in
-    let two = leb (b .mf) 3 in
-    let three = fromTo (pos 0) (pos 7) (r .first .0) in
-    let four = fromTo (negsuc 0) (pos 7) (r .second .0) in
-    let five = boundTo (b .mv .first) (r .first) in
-    let h5 = both (one && two && three && four && five) (boundTo (b .mv .second) (r .second)) e in
-    let h4 = both (one && two && three && four) five (h5 .0) in
-    let h3 = both (one && two && three) four (h4 .0) in
-    let h2 = both (one && two) three (h3 .0) in
-    leb-true (b .bs) 21 (both one two (h2 .0) .0)
-
 -- a neighbour that was read has sides of 1 to 32 units
 pub some-side : (down : Bool) (k : Neighbour) → Known k → (1 ≤ alongOf down k) × (alongOf down k ≤ 32)
 unfolding alongOf sideOf
-some-side down k n = by down (size-is (k .block .bs) (well-code (k .block) (n .well)))
+some-side down k n = by down (size-is (k .block .bs) (well-is (k .block) (n .well) .code))
   where
     by : (down : Bool) → (d : Dims) × (sizeOf (k .block .bs) ≡ sized-as.Of d) → (1 ≤ sideIn down (sizeOf (k .block .bs))) × (sideIn down (sizeOf (k .block .bs)) ≤ 32)
     by true (d, e) = let h = narrow (k .block .bs) d e in rw e (h .some-h, h .few-h)

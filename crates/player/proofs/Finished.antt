@@ -11,7 +11,6 @@ use lib.Dec.{eqb, ltb}
 use lib.ListN.{length, replicate}
 use borrow.Author.Tests.{eq-eqb}
 use Rattle.ground.specs.Pick.{pick}
-use Rattle.ground.specs.Script.{run}
 use Rattle.ground.specs.Window.{named}
 use Rattle.ground.proofs.Answers.{both-accept}
 use Rattle.ground.proofs.Picks.{pick-true}

@@ -17,7 +17,6 @@ use layout::frame_bytes::put_frame;
 ghost use mathlib.Core.Path.{_≡_};
 ghost use mathlib.Core.Bool.{false};
 ghost use Prim.Native.Nat.{_≤_};
-ghost use Rattle.capture.specs.File.{wellFile};
 ghost use Rattle.player.specs.Opened.{describedIn, placeIn, batchOf, batchIn, flagOf, presentIn, frameIn, beyond, unread, openAnswer};
 
 // Of a file, in bytes.

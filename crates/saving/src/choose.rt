@@ -7,10 +7,7 @@ use cells::size::dimensions;
 use hints::distances::RefHint;
 use vector::mv::Mv;
 ghost use mathlib.Core.Path.{_≡_};
-ghost use mathlib.Core.Bool.{true};
 ghost use Prim.Native.Nat.{_-_, _≤_};
-ghost use lib.IntN.{pos, natAbs};
-ghost use Rattle.ground.specs.Sign.{fromTo};
 ghost use Rattle.saving.specs.Save.{cellsWide};
 ghost use Rattle.saving.specs.Walk.{hintPlace, usableBy, chosenBy};
 

@@ -1,9 +1,9 @@
 -- One part of a search after the other: each goes on from what the one before it found, and the first refusal is the answer.
 -- Assumes nothing.
-use mathlib.Core.Path.{_≡_, refl, sym, ap, ap₂, _∙_, subst}
+use mathlib.Core.Path.{_≡_, refl, sym, ap, _∙_, subst}
 use mathlib.Core.Bool.{Bool, true, not}
-use mathlib.Core.List.{List, [], _∷_, _++_}
-use Prim.Native.Nat.{ℕ, zero, suc, _+_, _*_, _≤_, _<_, min}
+use mathlib.Core.List.{List, [], _∷_}
+use Prim.Native.Nat.{ℕ, zero, suc, _+_, _≤_, min}
 use native.Mathlib.Nat.{lt-irrefl}
 use native.Mathlib.Omega.{arith}
 use lib.Dec.{eqb}
@@ -30,9 +30,8 @@ use Rattle.neighbours.specs.Neighbour.{readAt}
 use Rattle.stack.specs.declared.candidate.Candidate.{Candidate}
 use Rattle.stack.specs.declared.clamp.Reach.{Reach}
 use Rattle.stack.specs.Stack.{State, Found, live, view, raised}
-use Rattle.stack.specs.Numbers.{foundAt, viewAt, countAt, Held}
-use Rattle.stack.proofs.Helds.{stack-long}
-use Rattle.stack.proofs.Adds.{live-length}
+use Rattle.stack.specs.Numbers.{viewAt, countAt, Held}
+use Rattle.stack.proofs.Adds.{how-many}
 use Rattle.stack.specs.Sort.{ordered, sorted}
 use Rattle.stack.specs.Clamp.{clamped}
 use Rattle.stack.specs.Answered as answered
@@ -52,7 +51,7 @@ use Rattle.search.specs.declared.find.Findings.{Findings}
 use Rattle.search.specs.declared.find.Nearest.{Nearest}
 use Rattle.search.specs.Parts.{aimOf, fieldOf, temporalWhere, zeroWhere}
 use Rattle.search.specs.Extend.{biasesOf, extraOf}
-use Rattle.search.specs.Find.{Result, refused, got, finding, reachOf, concluded, timed, goneOn, searchOf, findOf, Past}
+use Rattle.search.specs.Find.{refused, got, finding, reachOf, concluded, timed, goneOn, searchOf, findOf, Past}
 
 -- what an answer makes of a search
 module _ (r : Findings) (s : Found) where
@@ -176,15 +175,10 @@ module _ (l tl : List ℕ) (a : Ask) {z : Sizes} {b : Site} {nf nt nr : ℕ} (ze
       let q = ap (λ (u : Site). u .col .end .0) be in
       (placed, omega (arith, h, y, v), omega (arith, w, x, q), omega (arith, s .high, y), omega (arith, s .wide, x))
 
--- the candidates are as many as the numbers say
-many : (l : List ℕ) → Held l → length (viewAt l .cands) ≡ countAt l
-unfolding view
-many l h = live-length (foundAt l) (stack-long l) (h .room)
-
 pub sorts : (n : ℕ) (l : List ℕ) (sorted : Found) {m k : ℕ} → Held l → k ≡ countAt l → m ≡ min n k
     → view sorted ≡ ordered m (viewAt l) → view sorted ≡ ordered n (viewAt l)
 sorts n l sorted h j e v =
-    v ∙ ap (λ (i : ℕ). ordered i (viewAt l)) (e ∙ ap (min n) (j ∙ sym (many l h))) ∙ ordered-min n (viewAt l)
+    v ∙ ap (λ (i : ℕ). ordered i (viewAt l)) (e ∙ ap (min n) (j ∙ sym (how-many l h))) ∙ ordered-min n (viewAt l)
 
 -- what `take_nearest` gives
 abbrev nearestAt : List ℕ → Nearest
@@ -193,7 +187,7 @@ nearestAt l = record { count = countAt l; matched = matchesOf (viewAt l); newmv 
 -- the end, from what was taken of the near neighbours
 pub taken : (read : ℕ → ℕ → Read) (f : Frame) (t : Tile) (a : Ask) (still : ℕ) (l : List ℕ) (all : State) {n : Nearest} → Held l → n ≡ nearestAt l
     → concluded read f t a still (n .count) (n .matched) (n .newmv) all ≡ concluded read f t a still (length (viewAt l .cands)) (matchesOf (viewAt l)) (viewAt l .newmv) all
-taken read f t a still l all h e = rw (e, many l h)
+taken read f t a still l all h e = rw (e, how-many l h)
 
 -- the room that the near neighbours leave for the projection's weights, and both for those of the far ones
 pub timed-light : {a b : ℕ} → b ≤ 1028 → a ≤ b + 5120 → Light 134 a

@@ -13,7 +13,6 @@ use Rattle.frame.specs.Record.{wellFrame}
 use Rattle.extent.specs.Sizes.{records, projectedCells}
 use Rattle.rows.specs.declared.setup.Tile.{Tile}
 use Rattle.site.specs.declared.block.Site.{Site}
-use Rattle.site.specs.Site.{Placed}
 use Rattle.neighbours.specs.declared.read.Read.{Read}
 use Rattle.neighbours.specs.Neighbour.{readAt}
 use Rattle.around.specs.Around.{Went, nearAll, farAll}

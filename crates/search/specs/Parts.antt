@@ -1,5 +1,5 @@
 -- The temporal part of a search: 7.10.2.5 and 7.10.2.6 with the frame's distances and the block's place in the projection.
-use Prim.Native.Nat.{ℕ, _+_, _-_, _*_, _/_, _%_, _≤_}
+use Prim.Native.Nat.{ℕ, _+_, _-_, _*_, _/_, _%_}
 use mathlib.Core.Path.{_≡_}
 use mathlib.Core.Bool.{Bool, true}
 use lib.Dec.{eqb}

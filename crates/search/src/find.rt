@@ -29,7 +29,6 @@ use stack::numbers::flag_in;
 use stack::sort::sort_parts;
 use vector::mv::Mv;
 ghost use mathlib.Core.Path.{_≡_};
-ghost use mathlib.Core.Bool.{true};
 ghost use Prim.Native.Nat.{_≤_};
 ghost use lib.ListN.{length};
 ghost use Rattle.extent.specs.Sizes.{records, projectedCells};

@@ -9,12 +9,12 @@ use native.Mathlib.Nat.{mul-le-mul, le-refl}
 use native.Mathlib.Omega.{arith}
 use lib.Dec.{leb, ltb, eqb}
 use native.Mathlib.Decide.{decLt}
-use lib.ListN.{length, getD, length-append}
-use borrow.Author.Tests.{leb-true, le-leb, lt-leb, le-ltb, lt-ltb, ltb-false, not-false}
+use lib.ListN.{getD}
+use borrow.Author.Tests.{leb-true, le-leb, lt-leb, le-ltb, ltb-false, not-false}
 use Rattle.ground.specs.Pick.{pick}
 use Rattle.ground.specs.Put.{put, copies}
 use Rattle.ground.specs.Script.{run, Inside}
-use Rattle.ground.proofs.Picks.{both, pick-true, pick-false}
+use Rattle.ground.proofs.Picks.{both, pick-false}
 use Rattle.ground.proofs.Diffs.{Which, more, less, which}
 use Rattle.ground.proofs.Answers.{refused-not, both-accept, or-accepts, or-refuses, accepted-inside}
 use Rattle.ground.proofs.Puts.{copies-length}

@@ -14,7 +14,7 @@ use Rattle.ground.specs.Pick.{pick}
 use Rattle.cells.specs.declared.block.MvPair.{MvPair}
 use Rattle.stack.specs.declared.candidate.Candidate.{Candidate}
 use Rattle.stack.specs.Stack.{Found, live, view, withCands, eqPair, nobody, findIn, heavier, weightier, appended, addTo, joined, pushed, extended, heft}
-use Rattle.stack.specs.Numbers.{pairIn, candAt, foundAt, Held}
+use Rattle.stack.specs.Numbers.{pairIn, candAt, foundAt, viewAt, countAt, Held}
 use Rattle.stack.proofs.Counts.{heft-at, heft-add}
 use Rattle.stack.proofs.Helds.{stack-long, cand-is, pair-laid, weight-laid, count-laid, pair-eq}
 use Rattle.stack.proofs.Maps.{Turned, as-was, live-of}
@@ -38,14 +38,18 @@ find-le (x ∷ xs) p = by (eqPair (x .mv) p) (findIn xs p) (length xs) (find-le 
     by true m n h = omega arith
     by false m n h = omega arith
 
-pub live-length : (s : Found) → length (s .stack) ≡ 8 → s .count ≤ 8 → length (live s) ≡ s .count
+live-length : (s : Found) → length (s .stack) ≡ 8 → s .count ≤ 8 → length (live s) ≡ s .count
 unfolding live
 live-length s full few = length-take-le (s .count) (s .stack) (omega arith)
 
 -- what was found stands in the numbers l
 module _ (l : List ℕ) (h : Held l) where
-  in-use : length (live (foundAt l)) ≡ foundAt l .count
+  pub in-use : length (live (foundAt l)) ≡ countAt l
   in-use = live-length (foundAt l) (stack-long l) (h .room)
+
+  pub how-many : length (viewAt l .cands) ≡ countAt l
+  unfolding view
+  how-many = in-use
 
   live-is : (i : ℕ) → i < foundAt l .count → getD (live (foundAt l)) i nobody ≡ candAt l i
   unfolding live

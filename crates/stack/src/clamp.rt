@@ -5,7 +5,6 @@ use crate::numbers::pair_in;
 use cells::block::MvPair;
 use vector::mv::Mv;
 ghost use mathlib.Core.Path.{_≡_};
-ghost use Prim.Native.Nat.{_≤_};
 ghost use Rattle.ground.specs.Sign.{clip3};
 ghost use Rattle.stack.specs.Stack.{view};
 ghost use Rattle.stack.specs.Numbers.{foundAt, Held};

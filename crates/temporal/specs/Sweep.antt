@@ -1,7 +1,7 @@
 -- The temporal scan process (7.10.2.5): which cells a block's search looks at, in order, and what they leave on the stack.
 use Prim.Native.Nat.{ℕ, zero, suc, _+_, _-_, _*_, _/_, _^_, _≤_, _<_, min}
 use mathlib.Core.Bool.{Bool, true, false, _&&_}
-use lib.Dec.{eqb, ltb, leb}
+use lib.Dec.{ltb, leb}
 use lib.IntN.{natAbs}
 use Rattle.ground.specs.Pick.{pick}
 use Rattle.site.specs.declared.block.Site.{Site}

@@ -16,16 +16,12 @@ use Rattle.ground.specs.Sign.{eqZ}
 use Rattle.ground.specs.Twos.{halfOf}
 use Rattle.ground.proofs.Puts.{put-append, put-length}
 use Rattle.ground.proofs.Bits.{eqZ-is, half-outside, half-back}
-use Rattle.vector.specs.Vector.{Within, within, eqMv, both, mvAt, mvBytes}
+use Rattle.vector.specs.Vector.{Within, within, eqMv, mvAt, mvBytes}
 use Rattle.vector.specs.declared.mv.Mv.{Mv}
 
 -- a vector whose components are
 pub vector : {y x a b : ℤ} → y ≡ a → x ≡ b → _≡_ {A = Mv} (record { y = y; x = x }) (record { y = a; x = b })
 vector e e' = ap₂ (λ y x. record { y = y; x = x }) e e'
-
--- a law of a component is one of both
-pub at-both : {f g : ℤ → ℤ} → ((z : ℤ) → f z ≡ g z) → (v : Mv) → both f v ≡ both g v
-at-both e v = vector (e (v .y)) (e (v .x))
 
 -- the test of equality passes exactly where two vectors are one
 pub eqMv-is : (u v : Mv) → u ≡ v ↔ eqMv u v ≡ true

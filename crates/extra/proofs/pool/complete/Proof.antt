@@ -4,7 +4,8 @@ use mathlib.Core.Path.{sym, ap, _∙_}
 use native.Mathlib.Omega.{arith}
 use borrow.Author.Needs.{needs}
 use Rattle.stack.specs.Stack.{State, view, pushed}
-use Rattle.extra.proofs.Helds.{how-many, completes-none, completes-first, completes-other}
+use Rattle.stack.proofs.Adds.{how-many}
+use Rattle.extra.proofs.Helds.{completes-none, completes-first, completes-other}
 use Rattle.extra.proofs.pool.complete.Statement.{statement}
 use Rattle.extra.proofs.pool.complete.Tie as tie
 

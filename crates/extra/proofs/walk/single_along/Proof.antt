@@ -9,7 +9,7 @@ use denote.Ref.{now}
 use Rattle.stack.specs.Numbers.{viewAt, countAt, Held}
 use Rattle.stack.specs.Answered.{outcome}
 use Rattle.extra.specs.Walk.{singleOn}
-use Rattle.extra.proofs.Helds.{how-many}
+use Rattle.stack.proofs.Adds.{how-many}
 use Rattle.extra.proofs.Walks.{line, some, known, strides, Goes, ends, enough, refuses, goes}
 use Rattle.extra.proofs.walk.single_along.Statement.{statement}
 use Rattle.extra.proofs.walk.single_along.Tie as tie

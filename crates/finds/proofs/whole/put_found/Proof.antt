@@ -1,8 +1,7 @@
 -- `finds::whole::put_found` meets its contract.
 -- Assumes nothing.
 use Rattle.stack.specs.Numbers.{foundAt}
-use Rattle.stack.proofs.Helds.{stack-long}
-use Rattle.stack.proofs.Adds.{live-length}
+use Rattle.stack.proofs.Adds.{in-use}
 use Rattle.finds.proofs.Laid.{found-laid}
 use borrow.Author.Needs.{needs}
 use Rattle.finds.proofs.whole.put_found.Statement.{statement}
@@ -27,7 +26,7 @@ returns : tie.Need-returns
 returns c =
     let s = c .before .before .before in
     let l = s .args .s .now in
-    found-laid (s .args .r) (foundAt l) (s .pre .2) (live-length (foundAt l) (stack-long l) (s .pre .1 .room)) _ (c .count-in .ensures)
+    found-laid (s .args .r) (foundAt l) (s .pre .2) (in-use l (s .pre .1)) _ (c .count-in .ensures)
 
 pub put-found-spec : {M : Type 1} → statement M
 put-found-spec =

@@ -2,8 +2,7 @@
 -- Assumes nothing.
 use borrow.Author.Tests.{not-true, not-false}
 use Rattle.stack.specs.Numbers.{foundAt}
-use Rattle.stack.proofs.Helds.{stack-long}
-use Rattle.stack.proofs.Adds.{live-length}
+use Rattle.stack.proofs.Adds.{in-use}
 use Rattle.finds.proofs.Laid.{pairs-laid, singles-laid}
 use borrow.Author.Needs.{needs}
 use Rattle.finds.proofs.whole.put_stack.Statement.{statement}
@@ -25,7 +24,7 @@ returns : tie.Need-returns
 returns c =
     let s = c .before .before .before .before .before .before .before .before .before .before .before .before in
     let l = s .args .s .now in
-    singles-laid (s .args .r) (foundAt l) (s .pre .2) (s .args .compound) _ (c .before .before .before .before .before .before .before .before .put-candidates .ensures) (not-true _ (c .before .before .before .before .before .if1 .taken)) (live-length (foundAt l) (stack-long l) (s .pre .1 .room)) (c .before .before .before .count-in .ensures) (c .before .before .put-fills .ensures)
+    singles-laid (s .args .r) (foundAt l) (s .pre .2) (s .args .compound) _ (c .before .before .before .before .before .before .before .before .put-candidates .ensures) (not-true _ (c .before .before .before .before .before .if1 .taken)) (in-use l (s .pre .1)) (c .before .before .before .count-in .ensures) (c .before .before .put-fills .ensures)
 
 same-length-2 : tie.Need-same-length-2
 same-length-2 c = search needs

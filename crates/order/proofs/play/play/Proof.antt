@@ -2,7 +2,7 @@
 -- Assumes nothing.
 use lib.ListN.{length, drop}
 use Rattle.loading.specs.Load.{lent}
-use Rattle.order.specs.Desk.{given, desk, turn, plays}
+use Rattle.order.specs.Desk.{given, desk, plays}
 use Rattle.order.proofs.Plays.{plays-on, plays-end, turned}
 use denote.Ref.{now}
 use borrow.Author.Needs.{needs}

@@ -3,7 +3,7 @@
 use mathlib.Core.Path.{sym, _∙_}
 use native.Mathlib.Omega.{arith}
 use borrow.Author.Tests.{not-true, not-false}
-use Rattle.extra.proofs.Helds.{how-many}
+use Rattle.stack.proofs.Adds.{how-many}
 use Rattle.search.proofs.Extends.{biases-seven, extra-enough, extra-none, extra-compound, extra-single}
 use borrow.Author.Needs.{needs}
 use Rattle.search.proofs.extend.extend.Statement.{statement}

@@ -1,9 +1,7 @@
 -- `search::find::conclude` meets its contract.
 -- Assumes nothing.
 use mathlib.Core.Path.{refl, sym, ap, ap₂, _∙_}
-use Prim.Native.Nat.{min}
 use Rattle.cells.specs.declared.block.MvPair.{MvPair}
-use Rattle.stack.specs.Numbers.{foundAt}
 use Rattle.stack.proofs.Answers as answers
 use Rattle.search.proofs.Finds.{is-refused, sizes-fit, placed, lends, reaching, sizes-are, sorts, extra-asked, concludes-not, contexts, ends}
 use Rattle.search.specs.Find.{reachOf}

@@ -8,7 +8,7 @@ use Rattle.stack.specs.Stack.{live, heavier, weightier, raised, view}
 use Rattle.stack.specs.Numbers.{foundAt, Held}
 use Rattle.stack.proofs.Counts.{heft-raised}
 use Rattle.stack.proofs.Helds.{stack-long}
-use Rattle.stack.proofs.Adds.{live-length, weight-kept, gains}
+use Rattle.stack.proofs.Adds.{in-use, weight-kept, gains}
 use Rattle.stack.proofs.Maps.{Turned, starts, turns, same-count, ends, live-of}
 use Rattle.stack.proofs.add.raise.Statement.{statement}
 use Rattle.stack.proofs.add.raise.Tie as tie
@@ -81,7 +81,7 @@ returns c =
     let m = stack-long (s .args .s .now) in
     let r = s .pre .0 .room in
     let v = ends (l .loop .inv .2) (omega arith) (omega arith) in
-    let k = live-length f m r in
+    let k = in-use (s .args .s .now) (s .pre .0) in
     (l .loop .inv .1, same-count (l .loop .inv .2), v, rw (live-of f (foundAt (l .loop .s)) v) (heft-raised (live f) (s .args .w) (omega arith) (s .pre .1)))
 
 pub raise-spec : {M : Type 1} → statement M

@@ -1,4 +1,4 @@
--- How long the stack gets in the extra search, and that no weight is 0.
+-- How long the stack gets in the extra search.
 -- Assumes nothing.
 use mathlib.Core.Path.{_≡_, refl}
 use mathlib.Core.Bool.{Bool, true, false}
@@ -14,20 +14,9 @@ use Rattle.cells.specs.declared.block.Block.{Block}
 use Rattle.cells.specs.declared.block.MvPair.{MvPair}
 use Rattle.stack.specs.declared.candidate.Candidate.{Candidate}
 use Rattle.stack.specs.Stack.{State, stands, extended}
-use Rattle.stack.proofs.Counts.{Heavy, heavy-extended}
 use Rattle.extra.specs.declared.lists.Listed.{Listed}
 use Rattle.extra.specs.Lists.{isRef, turned, listsOf, listOf, allOf, extendedBy}
 use Rattle.extra.specs.Pool.{least, completed}
-
--- a list's vector
-heavy-all : (biases : List ℕ) (r : Ref) (ls : List Listed) (s : State) → Heavy (s .cands) → Heavy (allOf biases r ls s .cands)
-unfolding allOf listOf
-heavy-all biases r [] s h = h
-heavy-all biases r (l ∷ ls) s h = heavy-all biases r ls (listOf biases r l s) (heavy-extended s _ h)
-
-pub heavy-by : (biases : List ℕ) (r : Ref) (k : Block) (s : State) → Heavy (s .cands) → Heavy (extendedBy biases r k s .cands)
-unfolding extendedBy
-heavy-by biases r k s h = heavy-all biases r (listsOf k) s h
 
 -- each list gives at most one candidate, and a neighbour has at most two
 one-more : (s : State) (p : MvPair) → length (extended s p .cands) ≤ suc (length (s .cands))
@@ -66,17 +55,7 @@ two-laid [] c d e h = refl
 two-laid (x ∷ []) c d e h = refl
 two-laid (x ∷ y ∷ l) c d e h = absurd (omega arith)
 
-heavy-laid : (l : List Candidate) (c d e : Candidate) → length l < 2 → Heavy l → 1 ≤ c .weight → 1 ≤ d .weight → 1 ≤ e .weight → Heavy (laid-behind l c d e)
-unfolding laid-behind
-heavy-laid [] c d e h g p q r = (p, (q, tt))
-heavy-laid (x ∷ []) c d e h g p q r = (g .0, (r, tt))
-heavy-laid (x ∷ y ∷ l) c d e h g p q r = absurd (omega arith)
-
 module _ (p q : MvPair) (s : State) (few : length (s .cands) < 2) where
   pub completed-two : length (completed p q s .cands) ≡ 2
   unfolding completed laid-behind
   completed-two = two-laid (s .cands) (least p) (least q) _ few
-
-  pub heavy-completed : Heavy (s .cands) → Heavy (completed p q s .cands)
-  unfolding completed laid-behind
-  heavy-completed h = heavy-laid (s .cands) (least p) (least q) _ few h (omega arith) (omega arith) (omega arith)
