@@ -36,7 +36,6 @@ fn job_from(s: &[u8], at: usize) -> Job
 }
 
 fn place_in(s: &[u8], i: usize) -> Job
-    requires { ⌜ i ≤ 7 ⌝ }
     ensures { λ r. ⌜ r ≡ placeIn (now (s .entry)) i ⌝ }
 {
     if i < s.len() / JOB {

@@ -16,7 +16,6 @@ use layout::frame_bytes::frame_at;
 use layout::frame_bytes::put_frame;
 ghost use mathlib.Core.Path.{_≡_};
 ghost use mathlib.Core.Bool.{false};
-ghost use Prim.Native.Nat.{_≤_};
 ghost use Rattle.player.specs.Opened.{describedIn, placeIn, batchOf, batchIn, flagOf, presentIn, frameIn, beyond, unread, openAnswer};
 
 // Of a file, in bytes.
@@ -59,7 +58,6 @@ pub(crate) fn present_in(file: &[u8]) -> [u8; 7]
 }
 
 fn place_in(s: &[u8], i: usize) -> Job
-    requires { ⌜ i ≤ 7 ⌝ }
     ensures { λ r. ⌜ r ≡ placeIn (now (s .entry)) i ⌝ }
 {
     if i < s.len() / JOB {

@@ -1,3 +1,3 @@
-// Where a superblock row's records lie, and a block's record laid over its place.
+// Where a superblock row's records lie: its row table, and the setup that makes it.
 pub mod setup;
 pub mod table;
