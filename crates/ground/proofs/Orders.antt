@@ -1,5 +1,5 @@
 -- Jobs that never wait, in any order: `any-order` (after any steps), `all-finished` and `all-named` (all finished equals all run whole in list order),
--- `no-matter` (two lists that finish all jobs end alike). Assumes nothing.
+-- `no-matter` (two lists that take each job equally far end alike). Assumes nothing.
 use mathlib.Core.Path.{_≡_, refl, sym, ap, _∙_, subst}
 use mathlib.Core.Logic.{_⊎_, inl, inr, _≢_}
 use mathlib.Core.Bool.{Bool, true, false}
@@ -94,7 +94,7 @@ module _ (P : Plan) (m₀ : P .Mem) (F : Free P m₀) where
   all-named r e = all-finished r (finished-by r e)
 
   -- T3
-  pub no-matter : (q r : List ℕ) → ((j : ℕ) → j < P .jobs → P .cnt j ≤ named j q) → ((j : ℕ) → j < P .jobs → P .cnt j ≤ named j r)
+  pub no-matter : (q r : List ℕ) → ((j : ℕ) → j < P .jobs → min (named j q) (P .cnt j) ≡ min (named j r) (P .cnt j))
       → play P q (fresh P m₀) ≡ play P r (fresh P m₀)
-  no-matter q r a b = state-same P m₀ (λ _. m₀) laws (play P q (fresh P m₀)) (play P r (fresh P m₀)) (after P m₀ (λ _. m₀) laws q) (after P m₀ (λ _. m₀) laws r)
-      (λ j h. finished-by q a j h ∙ sym (finished-by r b j h))
+  no-matter q r e = state-same P m₀ (λ _. m₀) laws (play P q (fresh P m₀)) (play P r (fresh P m₀)) (after P m₀ (λ _. m₀) laws q) (after P m₀ (λ _. m₀) laws r)
+      (λ j h. any-order q .count j h ∙ e j h ∙ sym (any-order r .count j h))

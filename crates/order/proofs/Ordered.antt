@@ -213,9 +213,9 @@ module _ (g : Given) (d : Desk) (adm : Admitted g d) where
       held c j h w =
           ap (λ (m : Buffers). valueAt m c) (v .mem) ∙ t .window j c h (h, w) ∙ ap (λ (m : Buffers). valueAt m c) (rows-are g d j (doneBy g d ks j) (lent d))
 
-  -- two lists of steps that finish all jobs end in one desk, records too
-  pub no-matter : (q r : List ℕ) → Finishes g d q → Finishes g d r → plays g q d ≡ plays g r d
-  no-matter q r a b = λ i. record { batch = record { n = (v .many ∙ sym (w .many)) i; jobs = jobs i }; proj = mems i .proj; saved = mems i .saved }
+  -- two lists of steps that take each job equally far end in one desk, records too
+  pub no-matter : (q r : List ℕ) → ((j : ℕ) → j < n → doneBy g d q j ≡ doneBy g d r j) → plays g q d ≡ plays g r d
+  no-matter q r a = λ i. record { batch = record { n = (v .many ∙ sym (w .many)) i; jobs = jobs i }; proj = mems i .proj; saved = mems i .saved }
     where
       v : Seen (plays g q d) (play P q (fresh P (lent d)))
       v = seen q .0
@@ -224,7 +224,7 @@ module _ (g : Given) (d : Desk) (adm : Admitted g d) where
       w = seen r .0
 
       same : play P q (fresh P (lent d)) ≡ play P r (fresh P (lent d))
-      same = orders.no-matter P (lent d) (free g d ok) q r a b
+      same = orders.no-matter P (lent d) (free g d ok) q r a
 
       mems : lent (plays g q d) ≡ lent (plays g r d)
       mems = v .mem ∙ ap (λ (s : St P). s .mem) same ∙ sym (w .mem)

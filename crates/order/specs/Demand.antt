@@ -1,5 +1,6 @@
 -- DEMAND 3. "One to eight load and save jobs admitted together may be stepped in any order: each window holds what that job's first rows of work leave there,
--- every other cell is as lent; all finished equals all run whole in list order." Proved in proofs/Ordered: `any-order`, `all-finished`, `no-matter`.
+-- every other cell is as lent; all finished equals all run whole in list order." Proved in proofs/Ordered: `any-order`, `all-finished`, and `no-matter`, that
+-- two lists of steps which take each job equally far leave the same desk.
 use Prim.Native.Nat.{ℕ, zero, suc, _≤_, _<_, _/_, min}
 use mathlib.Core.Path.{_≡_}
 use mathlib.Core.Bool.{true, false}
