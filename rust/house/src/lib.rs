@@ -69,12 +69,16 @@ impl Library {
             .collect()
     }
 
+    /// What the files of a folder hold, but for the one that lists the others.
+    pub fn texts(&self, folder: &str, ending: &str) -> Vec<String> {
+        let file = |stem| read(&self.folder.join(folder).join(format!("{stem}{ending}")));
+        self.stems(folder, ending).into_iter().map(file).collect()
+    }
+
     pub fn functions(&self) -> Vec<Function> {
-        let file = |stem: &String| read(&self.folder.join("src").join(format!("{stem}.rt")));
-        let sources = self.stems("src", ".rt");
-        sources
+        self.texts("src", ".rt")
             .iter()
-            .flat_map(|stem| functions::all(&file(stem)))
+            .flat_map(|source| functions::all(source))
             .collect()
     }
 

@@ -1,4 +1,5 @@
-//! docs/CONTRACTS.md has every public function with its wrong programs, docs/ARCHITECTURE.md every file.
+//! docs/CONTRACTS.md has every public function with its wrong programs, docs/ARCHITECTURE.md every file, and
+//! what docs/BASE.md names is there.
 
 use house::libraries;
 use house::read;
@@ -114,6 +115,52 @@ fn every_file_is_told() {
         }
     }
     none(faults);
+}
+
+/// Whether a line of a definition, a law or a function gives it this name.
+fn declares(line: &str, name: &str) -> bool {
+    let mut rest = line.trim_start();
+    for word in [
+        "unfoldable ",
+        "abbrev ",
+        "pub ",
+        "extern \"C\" ",
+        "record ",
+        "fn ",
+    ] {
+        rest = rest.strip_prefix(word).unwrap_or(rest);
+    }
+    rest.strip_prefix(name)
+        .is_some_and(|after| after.starts_with([' ', '(', '<']))
+}
+
+#[test]
+fn what_is_named_as_proved_is_there() {
+    let folders = [("src", ".rt"), ("specs", ".antt"), ("proofs", ".antt")];
+    let texts: Vec<String> = libraries()
+        .iter()
+        .flat_map(|library| folders.map(|(folder, ending)| library.texts(folder, ending)))
+        .flatten()
+        .collect();
+    let is_declared = |name: &str| {
+        texts
+            .iter()
+            .any(|text| text.lines().any(|line| declares(line, name)))
+    };
+    // Paths, crates, and the plain reading beside the Rust.
+    let is_place = |name: &str| {
+        name.contains('/')
+            || root().join("crates").join(name).is_dir()
+            || root().join("rust/oracle/src").join(name).is_dir()
+    };
+    let base = document("BASE.md");
+    let names = base.split('`').skip(1).step_by(2);
+    none(
+        names
+            .filter(|name| !is_place(name) && !is_declared(name))
+            .map(|name| format!("BASE: {name} is nowhere"))
+            .collect(),
+    );
 }
 
 #[test]
