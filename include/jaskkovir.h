@@ -1,6 +1,6 @@
 /* Jaskkovir: reference motion vectors for AV1, for C.
  *
- * Link with target/staticlib/libabi.a, which `rust/library` makes; it needs only memcpy.
+ * Link with target/staticlib/libjaskkovir.a, which `rust/library` makes; it needs only memcpy.
  *
  * Every function that answers uint8_t takes any numbers and any bytes, ends, and answers 0 or one of
  * the refusals below. A refusal writes nothing. A lent part is a pointer and its length in bytes; it
@@ -145,11 +145,11 @@ uint8_t jaskkovir_splat_mv(const uint8_t *frame, size_t frame_len, const uint8_t
 /* Save: the cells of rows top..bottom and columns left..right (8-sample units, cut to the frame)
  * from the records that lie over them. The row table is that of the tile row, the superblock row sby
  * and the pass, 1 or 2.
- * Answers 0, 1, 3, 4, 6, 8, 9 or 12. Writes cells of field, which holds the listed saved cells. */
+ * Answers 0, 1, 3, 4, 6, 8, 9 or 12. Writes cells of saved, which holds the listed saved cells. */
 uint8_t jaskkovir_save_tmvs(const uint8_t *frame, size_t frame_len, size_t tile_row, size_t left,
                             size_t right, size_t top, size_t bottom, size_t sby, size_t pass,
-                            const uint8_t *records, size_t records_len, uint8_t *field,
-                            size_t field_len);
+                            const uint8_t *records, size_t records_len, uint8_t *saved,
+                            size_t saved_len);
 
 /* Load: clears the window of rows top..bottom and columns left..right (8-sample units, rows cut to
  * the frame) in the tile row's part of the projection, and projects the motion of the used
@@ -192,17 +192,17 @@ uint8_t jaskkovir_find(const uint8_t *frame, size_t frame_len, const uint8_t *ti
  * is cleared, then each reference's rows are read. A save has its rows. */
 
 /* Whether the jobs may be stepped together: each load and save would be accepted whole, and no two
- * windows share a cell. present and f0..f6 are a load's, recs a save's; proj and saved are what they
- * write, of which only the lengths count here.
+ * windows share a cell. present and f0..f6 are a load's, records a save's; proj and saved are what
+ * they write, of which only the lengths count here.
  * Answers 0, 1, 3 to 9, 11 or 12; writes nothing. */
 uint8_t jaskkovir_admit(const uint8_t *frame, size_t frame_len, const uint8_t *present,
                         size_t present_len, const uint8_t *jobs, size_t jobs_len,
                         const uint8_t *f0, size_t f0_len, const uint8_t *f1, size_t f1_len,
                         const uint8_t *f2, size_t f2_len, const uint8_t *f3, size_t f3_len,
                         const uint8_t *f4, size_t f4_len, const uint8_t *f5, size_t f5_len,
-                        const uint8_t *f6, size_t f6_len, const uint8_t *recs, size_t recs_len,
-                        const uint8_t *proj, size_t proj_len, const uint8_t *saved,
-                        size_t saved_len);
+                        const uint8_t *f6, size_t f6_len, const uint8_t *records,
+                        size_t records_len, const uint8_t *proj, size_t proj_len,
+                        const uint8_t *saved, size_t saved_len);
 
 /* One row of job k's work, the first being job 0. All parts are those that were admitted, as they
  * then stand; of any other the step itself judges what it needs.
@@ -213,8 +213,9 @@ uint8_t jaskkovir_step(const uint8_t *frame, size_t frame_len, const uint8_t *pr
                        const uint8_t *f0, size_t f0_len, const uint8_t *f1, size_t f1_len,
                        const uint8_t *f2, size_t f2_len, const uint8_t *f3, size_t f3_len,
                        const uint8_t *f4, size_t f4_len, const uint8_t *f5, size_t f5_len,
-                       const uint8_t *f6, size_t f6_len, const uint8_t *recs, size_t recs_len,
-                       uint8_t *proj, size_t proj_len, uint8_t *saved, size_t saved_len);
+                       const uint8_t *f6, size_t f6_len, const uint8_t *records,
+                       size_t records_len, uint8_t *proj, size_t proj_len, uint8_t *saved,
+                       size_t saved_len);
 
 /* Plays a capture file, which has a frame's description, its jobs, and the records and fields that
  * they read: the frame is set up, the jobs are admitted together, and run to their ends in list

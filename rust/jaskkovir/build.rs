@@ -6,12 +6,12 @@ use std::path::Path;
 fn main() {
     let manifest = env::var("CARGO_MANIFEST_DIR").expect("cargo names the manifest's folder");
     let folder = Path::new(&manifest).join("../../target/staticlib");
-    let library = folder.join("libabi.a");
+    let library = folder.join("libjaskkovir.a");
     println!("cargo::rerun-if-changed={}", library.display());
     if !library.is_file() {
-        println!("cargo::error=target/staticlib/libabi.a isn't there: run `rust/library` in the repository's root");
+        println!("cargo::error=target/staticlib/libjaskkovir.a isn't there: run `rust/library` in the repository's root");
         return;
     }
     println!("cargo::rustc-link-search=native={}", folder.display());
-    println!("cargo::rustc-link-lib=static=abi");
+    println!("cargo::rustc-link-lib=static=jaskkovir");
 }

@@ -14,23 +14,24 @@ use Rattle.cells.specs.declared.cell.Ref.{Ref}
 use Rattle.cells.specs.declared.block.Block.{Block}
 use Rattle.cells.specs.declared.block.MvPair.{MvPair}
 use Rattle.cells.specs.declared.block.RefPair.{RefPair}
-use Rattle.site.specs.declared.block.Site.{Site}
-use Rattle.site.specs.Site.{depthOf}
-use Rattle.neighbours.specs.declared.read.Neighbour.{Neighbour}
-use Rattle.neighbours.specs.declared.read.Read.{Read}
-use Rattle.neighbours.specs.declared.read.Read.the-variants.{Of, Refused}
-use Rattle.neighbours.specs.Neighbour.{alongOf, lineAt}
+use Rattle.spatial.specs.declared.site.block.Site.{Site}
+use Rattle.spatial.specs.site.Site.{depthOf}
+use Rattle.spatial.specs.declared.neighbours.read.Neighbour.{Neighbour}
+use Rattle.spatial.specs.declared.neighbours.read.NeighbourRead.{NeighbourRead}
+use Rattle.spatial.specs.declared.neighbours.read.NeighbourRead.the-variants.{Of, Refused}
+use Rattle.spatial.specs.neighbours.Neighbour.{alongOf, lineAt}
 use Rattle.stack.specs.declared.candidate.Candidate.{Candidate}
 use Rattle.stack.specs.Stack.{State, nobody, eqPair, stands, extended}
 use Rattle.stack.specs.Stable.{Falling}
 use Rattle.stack.specs.Answered.{Outcome, refused, found}
-use Rattle.around.specs.Lines.{nearLine}
-use Rattle.extra.specs.declared.lists.Listed.{Listed}
-use Rattle.extra.specs.Lists.{isRef, listsOf, listOf, allOf, extendedBy}
-use Rattle.extra.specs.Pool.{nothing, pairAt, least, completed}
-use Rattle.extra.specs.Walk.{Gathering, onRead, singleOn, onGathering}
-use Rattle.extra.specs.Walk as walks
-use Rattle.extra.proofs.Lengths.{two-more, completed-two}
+use Rattle.spatial.specs.around.Lines.{nearLine}
+use Rattle.search.specs.declared.extra.lists.Listed.{Listed}
+use Rattle.cells.specs.Cell.{isRef}
+use Rattle.search.specs.extra.Lists.{listsOf, listOf, allOf, extendedBy}
+use Rattle.search.specs.extra.Pool.{nothing, pairAt, least, completed}
+use Rattle.search.specs.extra.Walk.{Gathering, onRead, singleOn, onGathering}
+use Rattle.search.specs.extra.Walk as walks
+use Rattle.search.proofs.extra.Lengths.{two-more, completed-two}
 use Rattle.search.specs.Extend.{extraLimit, singleWhere, singleExtra, compoundWhere, completing, compoundExtra, extraOf}
 use Rattle.answers.specs.Sound.{AllGe, InParts}
 use Rattle.answers.proofs.Least.{ge-append}
@@ -88,7 +89,7 @@ record Ends (n : ℕ) (l : List Candidate) : Type 0 where
 
 -- a single search, along a line and on both sides
 module _ (m : ℕ) (biases : List ℕ) (r : Ref) where
-  single-on : (nb : ℕ → Read) (down : Bool) (limit n x : ℕ) (s : State) → Ends m (s .cands) → Reached (Ends m) (singleOn nb down limit biases r n x s)
+  single-on : (nb : ℕ → NeighbourRead) (down : Bool) (limit n x : ℕ) (s : State) → Ends m (s .cands) → Reached (Ends m) (singleOn nb down limit biases r n x s)
   unfolding singleOn
   single-on nb down limit zero x s e = e
   single-on nb down limit (suc n) x s e =
@@ -97,7 +98,7 @@ module _ (m : ℕ) (biases : List ℕ) (r : Ref) where
       ends : (k : Neighbour) → length (s .cands) < 2 → Ends m (extendedBy biases r (k .block) s .cands)
       ends k h = record { falls = falls-by m biases r (k .block) s (e .falls); few = omega (arith, two-more biases r (k .block) s) }
 
-      by : (t : Bool) → (ltb x limit && ltb (length (s .cands)) 2) ≡ t → (o : Read)
+      by : (t : Bool) → (ltb x limit && ltb (length (s .cands)) 2) ≡ t → (o : NeighbourRead)
           → ((k : Neighbour) → Ends m (extendedBy biases r (k .block) s .cands)
           → Reached (Ends m) (singleOn nb down limit biases r n (x + alongOf down k) (extendedBy biases r (k .block) s)))
           → Reached (Ends m) (pick t (onRead o (λ k. singleOn nb down limit biases r n (x + alongOf down k) (extendedBy biases r (k .block) s))) (found s))
@@ -105,7 +106,7 @@ module _ (m : ℕ) (biases : List ℕ) (r : Ref) where
       by true h (Refused i) g = tt
       by false h o g = e
 
-  single-where : (read : ℕ → ℕ → Read) (b : Site) (down : Bool) (s : State) → Ends m (s .cands) → Reached (Ends m) (singleWhere read b down biases r s)
+  single-where : (read : ℕ → ℕ → NeighbourRead) (b : Site) (down : Bool) (s : State) → Ends m (s .cands) → Reached (Ends m) (singleWhere read b down biases r s)
   unfolding singleWhere
   single-where read b down s e = by (eqb (depthOf down b) 0)
     where
@@ -113,13 +114,13 @@ module _ (m : ℕ) (biases : List ℕ) (r : Ref) where
       by true = e
       by false = single-on (lineAt read (nearLine down b)) down (extraLimit b) (extraLimit b) 0 s e
 
-  single-extra : (read : ℕ → ℕ → Read) (b : Site) (s : State) → Ends m (s .cands) → Reached (Ends m) (singleExtra read b biases r s)
+  single-extra : (read : ℕ → ℕ → NeighbourRead) (b : Site) (s : State) → Ends m (s .cands) → Reached (Ends m) (singleExtra read b biases r s)
   unfolding singleExtra
   single-extra read b s e =
       on-found (Ends m) (Ends m) (singleWhere read b false biases r s) (singleWhere read b true biases r) (single-where read b false s e) (single-where read b true)
 
 -- a compound pair, whatever was gathered
-compound-extra : (m : ℕ) (read : ℕ → ℕ → Read) (b : Site) (biases : List ℕ) (refs : RefPair) (g : MvPair) (s : State)
+compound-extra : (m : ℕ) (read : ℕ → ℕ → NeighbourRead) (b : Site) (biases : List ℕ) (refs : RefPair) (g : MvPair) (s : State)
     → length (s .cands) < 2 → Ends m (s .cands) → Reached (Ends m) (compoundExtra read b biases refs g s)
 unfolding compoundExtra
 compound-extra m read b biases refs g s h e = by (onGathering (compoundWhere read b false biases refs nothing) (compoundWhere read b true biases refs))
@@ -142,7 +143,7 @@ laid : (m : ℕ) (o : Outcome) → Reached (Ends m) o → Reached (Laid m) o
 laid m (refused n) e = tt
 laid m (found s) e = record { few = e .few; heavy = e .falls .heavy; parts = parts-falling m (s .cands) (e .falls .some) (e .falls .falls) }
 
-pub extra-of : (m : ℕ) (read : ℕ → ℕ → Read) (b : Site) (biases : List ℕ) (refs : RefPair) (g : MvPair) (s : State)
+pub extra-of : (m : ℕ) (read : ℕ → ℕ → NeighbourRead) (b : Site) (biases : List ℕ) (refs : RefPair) (g : MvPair) (s : State)
     → Kept m (s .cands) → InParts m (s .cands) → Reached (Laid m) (extraOf read b biases refs g s)
 unfolding extraOf
 extra-of m read b biases refs g s k p = by (leb 2 (length (s .cands))) refl (isRef (refs .first)) (isRef (refs .second))

@@ -17,8 +17,8 @@ use Rattle.rows.specs.declared.table.Place.{Place}
 use Rattle.rows.specs.declared.table.Place.the-variants.{Absent, At}
 use Rattle.rows.specs.declared.table.RowEntry.{RowEntry}
 use Rattle.rows.specs.Table.{placeAt}
-use Rattle.neighbours.specs.declared.read.Read.the-variants as read-as
-use Rattle.neighbours.specs.Neighbour.{judged, recordAt, inRow, readAt}
+use Rattle.spatial.specs.declared.neighbours.read.NeighbourRead.the-variants as read-as
+use Rattle.spatial.specs.neighbours.Neighbour.{judged, recordAt, inRow, readAt}
 use Rattle.temporal.specs.declared.aim.CellRead.{CellRead}
 use Rattle.temporal.specs.declared.aim.CellRead.the-variants as cell-as
 use Rattle.temporal.specs.Temporal.{cellRead}

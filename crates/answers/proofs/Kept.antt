@@ -10,29 +10,29 @@ use lib.ListN.{length, length-map}
 use Rattle.ground.specs.Pick.{pick}
 use Rattle.cells.specs.declared.block.Block.{Block}
 use Rattle.cells.specs.declared.block.MvPair.{MvPair}
-use Rattle.site.specs.declared.block.Site.{Site}
-use Rattle.site.specs.Site.{sideOf, depthOf}
+use Rattle.spatial.specs.declared.site.block.Site.{Site}
+use Rattle.spatial.specs.site.Site.{sideOf, depthOf}
 use Rattle.stack.specs.declared.candidate.Candidate.{Candidate}
 use Rattle.stack.specs.Stack.{State, nothing, heavier, joined, raised}
 use Rattle.stack.proofs.Counts.{add-length}
-use Rattle.neighbours.specs.declared.read.Neighbour.{Neighbour}
-use Rattle.neighbours.specs.declared.read.Read.{Read}
-use Rattle.neighbours.specs.declared.read.Read.the-variants as read-as
-use Rattle.neighbours.specs.declared.want.Want.{Want}
-use Rattle.neighbours.specs.declared.want.Offer.{Offer}
-use Rattle.neighbours.specs.declared.want.Offer.the-variants.{Nothing, Pair}
-use Rattle.neighbours.specs.Want.{offerOf}
-use Rattle.neighbours.specs.Neighbour.{alongOf, acrossOf, lineAt}
+use Rattle.spatial.specs.declared.neighbours.read.Neighbour.{Neighbour}
+use Rattle.spatial.specs.declared.neighbours.read.NeighbourRead.{NeighbourRead}
+use Rattle.spatial.specs.declared.neighbours.read.NeighbourRead.the-variants as read-as
+use Rattle.spatial.specs.declared.neighbours.want.Want.{Want}
+use Rattle.spatial.specs.declared.neighbours.want.Offer.{Offer}
+use Rattle.spatial.specs.declared.neighbours.want.Offer.the-variants.{Nothing, Pair}
+use Rattle.spatial.specs.neighbours.Want.{offerOf}
+use Rattle.spatial.specs.neighbours.Neighbour.{alongOf, acrossOf, lineAt}
 use Rattle.spatial.specs.declared.scan.Span.{Span}
 use Rattle.spatial.specs.declared.scan.Next.{Next}
 use Rattle.spatial.specs.declared.scan.Next.the-variants as next-as
 use Rattle.spatial.specs.Take.{noted, taken, spatial}
-use Rattle.spatial.specs.Scan.{Outcome, onRead, onNext, shorter, nextOf, scanOn, weightOf, scanFrom, scanOf, pointOf}
+use Rattle.spatial.specs.Scan.{ScanOutcome, onRead, onNext, shorter, nextOf, scanOn, weightOf, scanFrom, scanOf, pointOf}
 use Rattle.spatial.specs.Scan as scans
-use Rattle.around.specs.Lines.{rowOf, nearLine, farLine, nearSpan, farSpan}
-use Rattle.around.specs.Around.{Went, on, onScan, onWent, nearOf, hasRight, pointWhere, nearAll, farther, farOf, roundOf, hasLeft, farAll}
-use Rattle.around.specs.Around as around
-use Rattle.around.proofs.Places.{step-fits}
+use Rattle.spatial.specs.around.Lines.{rowOf, nearLine, farLine, nearSpan, farSpan}
+use Rattle.spatial.specs.around.Around.{Went, on, onScan, onWent, nearOf, hasRight, pointWhere, nearAll, farther, farOf, roundOf, hasLeft, farAll}
+use Rattle.spatial.specs.around.Around as around
+use Rattle.spatial.proofs.around.Places.{step-fits}
 use Rattle.answers.specs.Sound.{AllGe}
 use Rattle.answers.proofs.Least.{ge-add, ge-heavier, add-longer}
 
@@ -43,7 +43,7 @@ pub record Kept (n : ℕ) (l : List Candidate) : Type 0 where
   pub heavy : AllGe 2 l
 
 -- what has been found, where there was no refusal
-abbrev pub Scanned : (List Candidate → Type 0) → Outcome → Type 0
+abbrev pub Scanned : (List Candidate → Type 0) → ScanOutcome → Type 0
 Scanned P (scans.refused n) = Unit
 Scanned P (scans.found s r) = P (s .cands)
 
@@ -77,37 +77,37 @@ keeps-spatial n down w b q s k h = keeps-taken n down w (b .mf) s (offerOf b q) 
 
 -- a later neighbour counts for 1 unit or more
 abbrev Longer : Next → Type 0
-Longer (next-as.Take k len) = 1 ≤ len
+Longer (next-as.Take k len) = 1 ≤ len .0
 Longer (next-as.Refused n) = Unit
 
-longer : (down : Bool) (p : Span) → 1 ≤ p .step → (r : Read) → Longer (shorter down p r)
+longer : (down : Bool) (p : Span) → 1 ≤ p .step .0 → (r : NeighbourRead) → Longer (shorter down p r)
 longer down p h (read-as.Refused n) = tt
-longer down p h (read-as.Of k) = by (ltb (alongOf down k) (p .size))
+longer down p h (read-as.Of k) = by (ltb (alongOf down k) (p .size .0))
   where
-    by : (b : Bool) → Longer (pick b (next-as.Take k (max (p .step) (alongOf down k))) (next-as.Refused 9))
+    by : (b : Bool) → Longer (pick b (next-as.Take k (record { 0 = max (p .step .0) (alongOf down k) })) (next-as.Refused 9))
     by true = omega arith
     by false = tt
 
 weight-some : (p : Span) (across : ℕ) → 2 ≤ weightOf p across
 unfolding weightOf
-weight-some p across = by (eqb (p .size) 1)
+weight-some p across = by (eqb (p .size .0) 1)
   where
     by : (b : Bool) → 2 ≤ pick b 2 (max 2 (min (2 * p .rows) across))
     by true = omega arith
     by false = omega arith
 
 -- along a line that counts in steps of 1 or more
-module _ (m : ℕ) (nb : ℕ → Read) (down : Bool) (q : Want) (p : Span) (one : 1 ≤ p .step) where
-  on-next : (r : Next) (f : Neighbour → ℕ → Outcome) → Longer r → ((k : Neighbour) (len : ℕ) → 1 ≤ len → Scanned (Kept m) (f k len))
+module _ (m : ℕ) (nb : ℕ → NeighbourRead) (down : Bool) (q : Want) (p : Span) (one : 1 ≤ p .step .0) where
+  on-next : (r : Next) (f : Neighbour → ℕ → ScanOutcome) → Longer r → ((k : Neighbour) (len : ℕ) → 1 ≤ len → Scanned (Kept m) (f k len))
       → Scanned (Kept m) (onNext r f)
-  on-next (next-as.Take k len) f h g = g k len h
+  on-next (next-as.Take k len) f h g = g k (len .0) h
   on-next (next-as.Refused n) f h g = tt
 
   scan-on : (n x : ℕ) (s : State) → Kept m (s .cands) → Scanned (Kept m) (scanOn nb down q p n x s)
   unfolding scanOn nextOf
   scan-on zero x s k = k
   scan-on (suc n) x s k =
-      by (ltb x (p .limit)) (nextOf nb down p x) (longer down p one (nb x))
+      by (ltb x (p .limit .0)) (nextOf nb down p x) (longer down p one (nb x))
       (λ b len h. scan-on n (x + len) (spatial down (2 * len) (b .block) q s) (keeps-spatial m down (2 * len) (b .block) q s k (omega (arith, h))))
     where
       by : (t : Bool) (r : Next) → Longer r
@@ -119,34 +119,34 @@ module _ (m : ℕ) (nb : ℕ → Read) (down : Bool) (q : Want) (p : Span) (one 
   scan-from : (b : Neighbour) (s : State) → Kept m (s .cands) → Scanned (Kept m) (scanFrom nb down q p b s)
   unfolding scanFrom
   scan-from b s k =
-      by (ltb (alongOf down b) (p .size)) (max (p .step) (alongOf down b)) (weightOf p (acrossOf down b)) (omega arith)
+      by (ltb (alongOf down b) (p .size .0)) (max (p .step .0) (alongOf down b)) (weightOf p (acrossOf down b)) (omega arith)
       (weight-some p (acrossOf down b))
     where
       by : (t : Bool) (len w : ℕ) → 1 ≤ len → 2 ≤ w
           → Scanned (Kept m)
-          (pick t (scanOn nb down q p (p .limit) len (spatial down (2 * len) (b .block) q s))
-          (scans.found (spatial down (max (p .step) (p .size) * w) (b .block) q s) (w / 2)))
-      by true len w i h = scan-on (p .limit) len (spatial down (2 * len) (b .block) q s) (keeps-spatial m down (2 * len) (b .block) q s k (omega arith))
+          (pick t (scanOn nb down q p (p .limit .0) len (spatial down (2 * len) (b .block) q s))
+          (scans.found (spatial down (max (p .step .0) (p .size .0) * w) (b .block) q s) (w / 2)))
+      by true len w i h = scan-on (p .limit .0) len (spatial down (2 * len) (b .block) q s) (keeps-spatial m down (2 * len) (b .block) q s k (omega arith))
       by false len w i h =
-          let e : 1 ≤ max (p .step) (p .size) = omega arith in
-          let g : 1 * 2 ≤ max (p .step) (p .size) * w = mul-le-mul e h in
-          keeps-spatial m down (max (p .step) (p .size) * w) (b .block) q s k (omega (arith, g))
+          let e : 1 ≤ max (p .step .0) (p .size .0) = omega arith in
+          let g : 1 * 2 ≤ max (p .step .0) (p .size .0) * w = mul-le-mul e h in
+          keeps-spatial m down (max (p .step .0) (p .size .0) * w) (b .block) q s k (omega (arith, g))
 
   scan-of : (s : State) → Kept m (s .cands) → Scanned (Kept m) (scanOf nb down q p s)
   unfolding scanOf
   scan-of s k = by (nb 0)
     where
-      by : (r : Read) → Scanned (Kept m) (onRead r (λ b. scanFrom nb down q p b s))
+      by : (r : NeighbourRead) → Scanned (Kept m) (onRead r (λ b. scanFrom nb down q p b s))
       by (read-as.Of b) = scan-from b s k
       by (read-as.Refused n) = tt
 
-point-of : (m : ℕ) (r : Read) (q : Want) (s : State) → Kept m (s .cands) → Scanned (Kept m) (pointOf r q s)
+point-of : (m : ℕ) (r : NeighbourRead) (q : Want) (s : State) → Kept m (s .cands) → Scanned (Kept m) (pointOf r q s)
 unfolding pointOf
 point-of m (read-as.Of b) q s k = keeps-spatial m false 4 (b .block) q s k (omega arith)
 point-of m (read-as.Refused n) q s k = tt
 
 -- one scan after the other
-pub on-scan : (P Q : List Candidate → Type 0) (o : Outcome) (f : State → ℕ → Went) → Scanned P o
+pub on-scan : (P Q : List Candidate → Type 0) (o : ScanOutcome) (f : State → ℕ → Went) → Scanned P o
     → ((s : State) (r : ℕ) → P (s .cands) → Walked Q (f s r)) → Walked Q (onScan o f)
 on-scan P Q (scans.refused n) f k g = tt
 on-scan P Q (scans.found s r) f k g = g s r k
@@ -157,7 +157,7 @@ on-went P Q (around.refused n) f k g = tt
 on-went P Q (on s above left) f k g = g s above left k
 
 -- around a block
-module _ (m : ℕ) (read : ℕ → ℕ → Read) (b : Site) (q : Want) where
+module _ (m : ℕ) (read : ℕ → ℕ → NeighbourRead) (b : Site) (q : Want) where
   near-of : (down : Bool) (s : State) → Kept m (s .cands) → Scanned (Kept m) (nearOf read b down q s)
   unfolding nearOf nearSpan
   near-of down s k = by (eqb (depthOf down b) 0)
@@ -177,11 +177,11 @@ module _ (m : ℕ) (read : ℕ → ℕ → Read) (b : Site) (q : Want) where
       by (leb n reach) (ltb (depthOf down b) n) (scanOf (lineAt read (farLine down b n)) down q (farSpan down b n) s)
       (scan-of m (lineAt read (farLine down b n)) down q (farSpan down b n) (step-fits (sideOf down b) 2 (omega arith) (omega arith) .0) s k)
     where
-      far : (o : Outcome) → Scanned (Kept m) o → Scanned (Kept m) (farther reach o)
+      far : (o : ScanOutcome) → Scanned (Kept m) o → Scanned (Kept m) (farther reach o)
       far (scans.refused i) g = tt
       far (scans.found u r) g = g
 
-      by : (t u : Bool) (o : Outcome) → Scanned (Kept m) o → Scanned (Kept m) (pick t (scans.found s reach) (pick u (scans.found s reach) (farther reach o)))
+      by : (t u : Bool) (o : ScanOutcome) → Scanned (Kept m) o → Scanned (Kept m) (pick t (scans.found s reach) (pick u (scans.found s reach) (farther reach o)))
       by true u o g = k
       by false true o g = k
       by false false o g = far o g
@@ -205,8 +205,8 @@ from-nothing : Kept 0 (nothing .cands)
 unfolding nothing
 from-nothing = record { some = omega arith; few = omega arith; heavy = tt }
 
-module _ (read : ℕ → ℕ → Read) (b : Site) (decoded : Bool) (q : Want) where
-  abbrev right : State → Outcome
+module _ (read : ℕ → ℕ → NeighbourRead) (b : Site) (decoded : Bool) (q : Want) where
+  abbrev right : State → ScanOutcome
   right s = pointWhere (hasRight b decoded) read b (b .x .0 + b .w .0) q s
 
   pub near-all : Walked (Kept 0) (nearAll read b decoded q)

@@ -9,3 +9,4 @@ pub mod Places
 pub mod Spots
 pub mod Items
 pub mod Looks
+pub mod Same

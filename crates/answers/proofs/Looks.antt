@@ -7,22 +7,22 @@ use Prim.Native.Nat.{ℕ, _+_, _<_}
 use lib.Dec.{eqb}
 use lib.ListN.{length}
 use Rattle.frame.specs.declared.record.Frame.{Frame}
-use Rattle.extent.specs.Sizes.{records, projectedCells}
-use Rattle.rows.specs.declared.setup.Tile.{Tile}
-use Rattle.site.specs.Site.{Placed}
-use Rattle.neighbours.specs.declared.read.Read.{Read}
-use Rattle.neighbours.specs.Neighbour.{readAt}
+use Rattle.frame.specs.extent.Sizes.{records, projectedCells}
+use Rattle.rows.specs.Setup.{Tile}
+use Rattle.spatial.specs.Code.Site.{Placed}
+use Rattle.spatial.specs.declared.neighbours.read.NeighbourRead.{NeighbourRead}
+use Rattle.spatial.specs.neighbours.Neighbour.{readAt}
 use Rattle.stack.specs.Stack.{State, raised}
 use Rattle.stack.specs.Sort.{ordered}
 use Rattle.stack.specs.Clamp.{clamped}
 use Rattle.temporal.specs.declared.aim.CellRead.{CellRead}
 use Rattle.temporal.specs.declared.sweep.Field.{Field}
 use Rattle.temporal.specs.Temporal.{cellRead}
-use Rattle.extra.specs.Lists.{isRef}
-use Rattle.front.specs.declared.ask.Ask.{Ask}
-use Rattle.front.specs.Ask.{findFront, wantOf, globalOf, siteOf}
-use Rattle.front.specs.Context.{matchesOf, contextOf}
-use Rattle.front.proofs.Fronts.{passed, site-placed}
+use Rattle.cells.specs.Cell.{isRef}
+use Rattle.search.specs.declared.front.ask.Ask.{Ask}
+use Rattle.search.specs.front.Ask.{findFront, wantOf, globalOf, siteOf}
+use Rattle.search.specs.front.Context.{matchesOf, contextOf}
+use Rattle.search.proofs.front.Fronts.{passed, site-placed}
 use Rattle.search.specs.Parts.{aimOf, fieldOf}
 use Rattle.search.specs.Extend.{biasesOf}
 use Rattle.search.specs.Find.{got, afterWent, afterFound, reachOf, concluded, timed, goneOn, searchOf, findOf}
@@ -37,7 +37,7 @@ abbrev fieldAt : Frame → Tile → Ask → Field
 fieldAt f t a = fieldOf (f .sizes) t (siteOf t a)
 
 -- the records of a block's places read the same, and its cells where the temporal process looks at them
-module _ (read read′ : ℕ → ℕ → Read) (cells cells′ : ℕ → CellRead) (f : Frame) (t : Tile) (a : Ask) (placed : Placed (siteOf t a)) where
+module _ (read read′ : ℕ → ℕ → NeighbourRead) (cells cells′ : ℕ → CellRead) (f : Frame) (t : Tile) (a : Ask) (placed : Placed (siteOf t a)) where
   module _ (places : SamePlaces (siteOf t a) read read′) (spots : timed f ≡ true → SameSpots (fieldAt f t a) (siteOf t a) cells cells′) where
     same-end : (still count matched : ℕ) (newmv : Bool) (all : State)
         → concluded read f t a still count matched newmv all ≡ concluded read′ f t a still count matched newmv all

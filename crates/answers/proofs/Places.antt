@@ -13,55 +13,57 @@ use Rattle.ground.proofs.Picks.{both}
 use Rattle.cells.specs.declared.cell.Ref.{Ref}
 use Rattle.cells.specs.declared.block.MvPair.{MvPair}
 use Rattle.cells.specs.declared.block.RefPair.{RefPair}
-use Rattle.site.specs.declared.block.Site.{Site}
-use Rattle.site.specs.Site.{limitOf, depthOf, Placed}
-use Rattle.site.proofs.Sides.{limit-some}
+use Rattle.spatial.specs.declared.site.block.Site.{Site}
+use Rattle.spatial.specs.site.Site.{limitOf, depthOf}
+use Rattle.spatial.specs.Code.Site.{Placed}
+use Rattle.spatial.proofs.site.Sides.{limit-some}
 use Rattle.stack.specs.Stack.{State, nothing}
 use Rattle.stack.specs.Answered as answered
-use Rattle.neighbours.specs.declared.read.Neighbour.{Neighbour}
-use Rattle.neighbours.specs.declared.read.Read.{Read}
-use Rattle.neighbours.specs.declared.want.Want.{Want}
-use Rattle.neighbours.specs.Neighbour.{alongOf, acrossOf, lineAt}
+use Rattle.spatial.specs.declared.neighbours.read.Neighbour.{Neighbour}
+use Rattle.spatial.specs.declared.neighbours.read.NeighbourRead.{NeighbourRead}
+use Rattle.spatial.specs.declared.neighbours.want.Want.{Want}
+use Rattle.spatial.specs.neighbours.Neighbour.{alongOf, acrossOf, lineAt}
 use Rattle.spatial.specs.declared.scan.Span.{Span}
 use Rattle.spatial.specs.Take.{spatial}
-use Rattle.spatial.specs.Scan.{Outcome, found, onRead, onNext, shorter, nextOf, scanOn, weightOf, scanFrom, scanOf, pointOf}
-use Rattle.around.specs.Lines.{rowOf, nearLine, farLine, nearSpan, farSpan}
-use Rattle.around.specs.Around.{Went, on, onScan, onWent, nearOf, hasRight, pointWhere, nearAll, farther, farOf, roundOf, hasLeft, farAll}
-use Rattle.extra.specs.Lists.{isRef, extendedBy}
-use Rattle.extra.specs.Pool.{Both, gatheredBy}
-use Rattle.extra.specs.Pool as pools
-use Rattle.extra.specs.Walk.{Gathering, singleOn, compoundOn, onGathering, onRead₂}
-use Rattle.extra.specs.Walk as walks
+use Rattle.spatial.specs.Scan.{ScanOutcome, found, onRead, onNext, shorter, nextOf, scanOn, weightOf, scanFrom, scanOf, pointOf}
+use Rattle.spatial.specs.around.Lines.{rowOf, nearLine, farLine, nearSpan, farSpan}
+use Rattle.spatial.specs.around.Around.{Went, on, onScan, onWent, nearOf, hasRight, pointWhere, nearAll, farther, farOf, roundOf, hasLeft, farAll}
+use Rattle.cells.specs.Cell.{isRef}
+use Rattle.search.specs.extra.Lists.{extendedBy}
+use Rattle.search.specs.extra.Pool.{Both, gatheredBy}
+use Rattle.search.specs.extra.Pool as pools
+use Rattle.search.specs.extra.Walk.{Gathering, singleOn, compoundOn, onGathering, onRead₂}
+use Rattle.search.specs.extra.Walk as walks
 use Rattle.search.specs.Extend.{extraLimit, singleWhere, singleExtra, compoundWhere, completing, compoundExtra, extraOf}
 use Rattle.answers.specs.Reads.{Place, touching, beyond, above-right, above-left, SamePlaces}
 
 -- a scan reads below its span's limit
-module _ (nb nb′ : ℕ → Read) (down : Bool) (q : Want) (p : Span) (some : 1 ≤ p .limit) (same : (i : ℕ) → i < p .limit → nb i ≡ nb′ i) where
+module _ (nb nb′ : ℕ → NeighbourRead) (down : Bool) (q : Want) (p : Span) (some : 1 ≤ p .limit .0) (same : (i : ℕ) → i < p .limit .0 → nb i ≡ nb′ i) where
   scan-on : (n x : ℕ) (s : State) → scanOn nb down q p n x s ≡ scanOn nb′ down q p n x s
   unfolding scanOn nextOf
   scan-on zero x s = refl
-  scan-on (suc n) x s = by (ltb x (p .limit)) refl (λ k len. scan-on n (x + len) (spatial down (2 * len) (k .block) q s))
+  scan-on (suc n) x s = by (ltb x (p .limit .0)) refl (λ k len. scan-on n (x + len) (spatial down (2 * len) (k .block) q s))
     where
-      rest : (ℕ → Read) → Neighbour → ℕ → Outcome
+      rest : (ℕ → NeighbourRead) → Neighbour → ℕ → ScanOutcome
       rest f k len = scanOn f down q p n (x + len) (spatial down (2 * len) (k .block) q s)
 
-      by : (t : Bool) → ltb x (p .limit) ≡ t → ((k : Neighbour) (len : ℕ) → rest nb k len ≡ rest nb′ k len)
+      by : (t : Bool) → ltb x (p .limit .0) ≡ t → ((k : Neighbour) (len : ℕ) → rest nb k len ≡ rest nb′ k len)
           → pick t (onNext (shorter down p (nb x)) (rest nb)) (found s 1) ≡ pick t (onNext (shorter down p (nb′ x)) (rest nb′)) (found s 1)
-      by true h g = λ i. onNext (shorter down p (same x (ltb-true x (p .limit) h) i)) (λ k len. g k len i)
+      by true h g = λ i. onNext (shorter down p (same x (ltb-true x (p .limit .0) h) i)) (λ k len. g k len i)
       by false h g = refl
 
   scan-from : (k : Neighbour) (s : State) → scanFrom nb down q p k s ≡ scanFrom nb′ down q p k s
   unfolding scanFrom
   scan-from k s = λ i.
-      pick (ltb (alongOf down k) (p .size))
-      (scan-on (p .limit) (max (p .step) (alongOf down k)) (spatial down (2 * max (p .step) (alongOf down k)) (k .block) q s) i)
-      (found (spatial down (max (p .step) (p .size) * weightOf p (acrossOf down k)) (k .block) q s) (weightOf p (acrossOf down k) / 2))
+      pick (ltb (alongOf down k) (p .size .0))
+      (scan-on (p .limit .0) (max (p .step .0) (alongOf down k)) (spatial down (2 * max (p .step .0) (alongOf down k)) (k .block) q s) i)
+      (found (spatial down (max (p .step .0) (p .size .0) * weightOf p (acrossOf down k)) (k .block) q s) (weightOf p (acrossOf down k) / 2))
 
   scan-of : (s : State) → scanOf nb down q p s ≡ scanOf nb′ down q p s
   unfolding scanOf
   scan-of s = λ i. onRead (same 0 some i) (λ k. scan-from k s i)
 
-module _ (read read′ : ℕ → ℕ → Read) (b : Site) (placed : Placed b) (same : SamePlaces b read read′) where
+module _ (read read′ : ℕ → ℕ → NeighbourRead) (b : Site) (placed : Placed b) (same : SamePlaces b read read′) where
   near-line : (down : Bool) (i : ℕ) → (depthOf down b ≡ 0 → ⊥) → i < limitOf down b → lineAt read (nearLine down b) i ≡ lineAt read′ (nearLine down b) i
   unfolding lineAt
   near-line down i d h = same _ _ (touching down i (omega arith) h)
@@ -145,7 +147,7 @@ module _ (read read′ : ℕ → ℕ → Read) (b : Site) (placed : Placed b) (s
     single-on r (suc n) x s =
         by (ltb x (extraLimit b) && ltb (length (s .cands)) 2) refl (λ k. single-on r n (x + alongOf down k) (extendedBy biases r (k .block) s))
       where
-        rest : (ℕ → ℕ → Read) → Neighbour → answered.Outcome
+        rest : (ℕ → ℕ → NeighbourRead) → Neighbour → answered.Outcome
         rest f k = singleOn (lineAt f (nearLine down b)) down (extraLimit b) biases r n (x + alongOf down k) (extendedBy biases r (k .block) s)
 
         by : (t : Bool) → (ltb x (extraLimit b) && ltb (length (s .cands)) 2) ≡ t → ((k : Neighbour) → rest read k ≡ rest read′ k)
@@ -163,7 +165,7 @@ module _ (read read′ : ℕ → ℕ → Read) (b : Site) (placed : Placed b) (s
     compound-on refs (suc n) x p =
         by (ltb x (extraLimit b)) refl (λ k. compound-on refs n (x + alongOf down k) (gatheredBy biases refs (k .block) p))
       where
-        rest : (ℕ → ℕ → Read) → Neighbour → Gathering
+        rest : (ℕ → ℕ → NeighbourRead) → Neighbour → Gathering
         rest f k = compoundOn (lineAt f (nearLine down b)) down (extraLimit b) biases refs n (x + alongOf down k) (gatheredBy biases refs (k .block) p)
 
         by : (t : Bool) → ltb x (extraLimit b) ≡ t → ((k : Neighbour) → rest read k ≡ rest read′ k)
@@ -177,7 +179,7 @@ module _ (read read′ : ℕ → ℕ → Read) (b : Site) (placed : Placed b) (s
     unfolding singleWhere
     single-where down r s = by (eqb (depthOf down b) 0) refl
       where
-        walk : (ℕ → ℕ → Read) → answered.Outcome
+        walk : (ℕ → ℕ → NeighbourRead) → answered.Outcome
         walk f = singleOn (lineAt f (nearLine down b)) down (extraLimit b) biases r (extraLimit b) 0 s
 
         by : (t : Bool) → eqb (depthOf down b) 0 ≡ t → pick t (answered.found s) (walk read) ≡ pick t (answered.found s) (walk read′)
@@ -188,7 +190,7 @@ module _ (read read′ : ℕ → ℕ → Read) (b : Site) (placed : Placed b) (s
     unfolding compoundWhere
     compound-where down refs p = by (eqb (depthOf down b) 0) refl
       where
-        walk : (ℕ → ℕ → Read) → Gathering
+        walk : (ℕ → ℕ → NeighbourRead) → Gathering
         walk f = compoundOn (lineAt f (nearLine down b)) down (extraLimit b) biases refs (extraLimit b) 0 p
 
         by : (t : Bool) → eqb (depthOf down b) 0 ≡ t → pick t (walks.gathered p) (walk read) ≡ pick t (walks.gathered p) (walk read′)

@@ -9,10 +9,10 @@ use lib.Dec.{eqb}
 use lib.ListN.{length, length-map}
 use Rattle.ground.specs.Pick.{pick}
 use Rattle.frame.specs.declared.record.Frame.{Frame}
-use Rattle.extent.specs.Sizes.{records, projectedCells}
-use Rattle.rows.specs.declared.setup.Tile.{Tile}
-use Rattle.neighbours.specs.declared.read.Read.{Read}
-use Rattle.neighbours.specs.Neighbour.{readAt}
+use Rattle.frame.specs.extent.Sizes.{records, projectedCells}
+use Rattle.rows.specs.Setup.{Tile}
+use Rattle.spatial.specs.declared.neighbours.read.NeighbourRead.{NeighbourRead}
+use Rattle.spatial.specs.neighbours.Neighbour.{readAt}
 use Rattle.stack.specs.declared.candidate.Candidate.{Candidate}
 use Rattle.stack.specs.declared.clamp.Reach.{Reach}
 use Rattle.stack.specs.Stack.{State, raised}
@@ -22,14 +22,14 @@ use Rattle.stack.specs.Answered as answered
 use Rattle.stack.proofs.Clips.{clamped-inside}
 use Rattle.temporal.specs.declared.aim.CellRead.{CellRead}
 use Rattle.temporal.specs.Temporal.{cellRead}
-use Rattle.around.specs.Around.{Went, nearAll, farAll}
-use Rattle.around.specs.Around as around
-use Rattle.front.specs.declared.ask.Ask.{Ask}
-use Rattle.front.specs.Ask.{findFront, wantOf, globalOf, siteOf}
-use Rattle.front.specs.Context.{matchesOf}
+use Rattle.spatial.specs.around.Around.{Went, nearAll, farAll}
+use Rattle.spatial.specs.around.Around as around
+use Rattle.search.specs.declared.front.ask.Ask.{Ask}
+use Rattle.search.specs.front.Ask.{findFront, wantOf, globalOf, siteOf}
+use Rattle.search.specs.front.Context.{matchesOf}
 use Rattle.search.specs.Parts.{aimOf, fieldOf, temporalWhere, zeroWhere}
 use Rattle.search.specs.Extend.{biasesOf, extraOf}
-use Rattle.search.specs.Find.{Finding, Result, refused, got, afterWent, afterFound, reachOf, concluded, timed, goneOn, searchOf, findOf}
+use Rattle.search.specs.Find.{Finding, SearchOutcome, refused, got, afterWent, afterFound, reachOf, concluded, timed, goneOn, searchOf, findOf}
 use Rattle.answers.specs.Sound.{countIn, nearCount, Sound}
 use Rattle.answers.proofs.Least.{ge-clamped}
 use Rattle.answers.proofs.Kept.{Kept, Walked, keeps-raised, far-all, near-all}
@@ -38,16 +38,16 @@ use Rattle.answers.proofs.Parts.{parts-clamped, parts-ordered, kept-ord
 use Rattle.answers.proofs.Extras.{Laid, extra-of}
 
 -- what was got, where there was no refusal
-abbrev Gotten : (Finding → Type 0) → Result → Type 0
+abbrev Gotten : (Finding → Type 0) → SearchOutcome → Type 0
 Gotten P (refused n) = Unit
 Gotten P (got x) = P x
 
-after-found : (P : List Candidate → Type 0) (Q : Finding → Type 0) (o : answered.Outcome) (f : State → Result) → Reached P o
+after-found : (P : List Candidate → Type 0) (Q : Finding → Type 0) (o : answered.Outcome) (f : State → SearchOutcome) → Reached P o
     → ((s : State) → P (s .cands) → Gotten Q (f s)) → Gotten Q (afterFound o f)
 after-found P Q (answered.refused n) f k g = tt
 after-found P Q (answered.found s) f k g = g s k
 
-after-went : (P : List Candidate → Type 0) (Q : Finding → Type 0) (w : Went) (f : State → ℕ → ℕ → Result) → Walked P w
+after-went : (P : List Candidate → Type 0) (Q : Finding → Type 0) (w : Went) (f : State → ℕ → ℕ → SearchOutcome) → Walked P w
     → ((s : State) (above left : ℕ) → P (s .cands) → Gotten Q (f s above left)) → Gotten Q (afterWent w f)
 after-went P Q (around.refused n) f k g = tt
 after-went P Q (around.on s above left) f k g = g s above left k
@@ -62,7 +62,7 @@ sound-clamped n r s x e h =
       inside = rw e (clamped-inside r s);
     }
 
-module _ (read : ℕ → ℕ → Read) (cells : ℕ → CellRead) (f : Frame) (t : Tile) (a : Ask) where
+module _ (read : ℕ → ℕ → NeighbourRead) (cells : ℕ → CellRead) (f : Frame) (t : Tile) (a : Ask) where
   abbrev reach : Reach
   reach = reachOf (f .sizes) (siteOf t a)
 
@@ -103,7 +103,7 @@ pub find-sound : (f : Frame) (t : Tile) (recs proj : List ℕ) (a : Ask) {x : Fi
 unfolding findOf
 find-sound f t recs proj a {x} e = subst (Gotten P) e (by (eqb front 0))
   where
-    read : ℕ → ℕ → Read
+    read : ℕ → ℕ → NeighbourRead
     read = readAt (t .rows) recs (records (f .sizes))
 
     cells : ℕ → CellRead

@@ -7,9 +7,10 @@ use native.Mathlib.Nat.{suc-mul, zero-mul, add-zero}
 use native.Mathlib.Omega.{arith}
 use lib.Dec.{ltb}
 use Rattle.ground.specs.Pick.{pick}
-use Rattle.site.specs.declared.block.Site.{Site}
-use Rattle.site.specs.Site.{limitOf, Placed}
-use Rattle.site.proofs.Sides.{limit-some}
+use Rattle.spatial.specs.declared.site.block.Site.{Site}
+use Rattle.spatial.specs.site.Site.{limitOf}
+use Rattle.spatial.specs.Code.Site.{Placed}
+use Rattle.spatial.proofs.site.Sides.{limit-some}
 use Rattle.stack.specs.Stack.{State}
 use Rattle.stack.specs.Answered.{Outcome, found, onFound}
 use Rattle.temporal.specs.declared.aim.Aim.{Aim}
@@ -93,7 +94,7 @@ module _ (cells cells′ : ℕ → CellRead) (a : Aim) (f : Field) (b : Site) wh
   first-same p same =
       let rows = along-some (b .h .0) (limitOf true b) (limit-some true b p) in
       let columns = along-some (b .w .0) (limitOf false b) (limit-some false b p) in
-      rw (zero-mul (strideAlong (b .h .0) * f .stride), zero-mul (strideAlong (b .w .0)), add-zero (f .first), add-zero (f .first)) at
+      rw (zero-mul (strideAlong (b .h .0) * f .stride .0), zero-mul (strideAlong (b .w .0)), add-zero (f .first), add-zero (f .first)) at
       (same _ (own 0 0 rows columns))
 
   pub zero-where : (here : Bool) (header : ℕ) → Placed b → (here ≡ true → SameSpots f b cells cells′)

@@ -5,7 +5,7 @@ use mathlib.Core.List.{List}
 use Prim.Native.Nat.{ℕ, zero, suc, _+_}
 use native.Mathlib.Omega.{arith}
 use Rattle.ground.specs.Pick.{pick}
-use Rattle.site.specs.declared.block.Site.{Site}
+use Rattle.spatial.specs.declared.site.block.Site.{Site}
 use Rattle.stack.specs.declared.candidate.Candidate.{Candidate}
 use Rattle.stack.specs.Stack.{State}
 use Rattle.stack.specs.Answered.{Outcome, refused, found, onFound}

@@ -7,12 +7,12 @@ use lib.ListN.{getD}
 use Rattle.rows.specs.declared.table.Place.the-variants.{At}
 use Rattle.rows.specs.declared.table.RowEntry.{RowEntry}
 use Rattle.rows.specs.Table.{placeAt}
-use Rattle.site.specs.declared.block.Site.{Site}
-use Rattle.site.specs.Site.{limitOf, depthOf}
-use Rattle.neighbours.specs.declared.read.Read.{Read}
-use Rattle.neighbours.specs.Neighbour.{entryOf, colOf}
-use Rattle.around.specs.Lines.{rowOf, nearLine, farLine}
-use Rattle.around.specs.Around.{hasRight, hasLeft}
+use Rattle.spatial.specs.declared.site.block.Site.{Site}
+use Rattle.spatial.specs.site.Site.{limitOf, depthOf}
+use Rattle.spatial.specs.declared.neighbours.read.NeighbourRead.{NeighbourRead}
+use Rattle.spatial.specs.neighbours.Neighbour.{entryOf, colOf}
+use Rattle.spatial.specs.around.Lines.{rowOf, nearLine, farLine}
+use Rattle.spatial.specs.around.Around.{hasRight, hasLeft}
 use Rattle.temporal.specs.declared.aim.CellRead.{CellRead}
 use Rattle.temporal.specs.declared.sweep.Field.{Field}
 use Rattle.temporal.specs.Sweep.{strideAlong, cellsAlong, hasCorners, there, leftward}
@@ -28,15 +28,15 @@ pub data Place (b : Site) : ℕ → ℕ → Type 0 where
 -- A cell of the projection: in the block's own rows and columns of cells, and the three at its corners.
 pub data Spot (f : Field) (b : Site) : ℕ → Type 0 where
   own : (r c : ℕ) → r < cellsAlong (limitOf true b) (strideAlong (b .h .0)) → c < cellsAlong (limitOf false b) (strideAlong (b .w .0))
-      → Spot f b (f .first + r * (strideAlong (b .h .0) * f .stride) + c * strideAlong (b .w .0))
-  below-left : hasCorners b ≡ true → (there true b (b .h .0 / 2) && leftward b) ≡ true → Spot f b (f .first + b .h .0 / 2 * f .stride - 1)
+      → Spot f b (f .first + r * (strideAlong (b .h .0) * f .stride .0) + c * strideAlong (b .w .0))
+  below-left : hasCorners b ≡ true → (there true b (b .h .0 / 2) && leftward b) ≡ true → Spot f b (f .first + b .h .0 / 2 * f .stride .0 - 1)
   below-right : hasCorners b ≡ true → (there false b (b .w .0 / 2) && there true b (b .h .0 / 2)) ≡ true
-      → Spot f b (f .first + b .h .0 / 2 * f .stride + b .w .0 / 2)
+      → Spot f b (f .first + b .h .0 / 2 * f .stride .0 + b .w .0 / 2)
   right : hasCorners b ≡ true → (there false b (b .w .0 / 2) && there true b (b .h .0 / 2 - 1)) ≡ true
-      → Spot f b (f .first + b .h .0 / 2 * f .stride + b .w .0 / 2 - f .stride)
+      → Spot f b (f .first + b .h .0 / 2 * f .stride .0 + b .w .0 / 2 - f .stride .0)
 
 -- two ways to read that agree there
-abbrev pub SamePlaces : Site → (read read′ : ℕ → ℕ → Read) → Type 0
+abbrev pub SamePlaces : Site → (read read′ : ℕ → ℕ → NeighbourRead) → Type 0
 SamePlaces b read read′ = (e c : ℕ) → Place b e c → read e c ≡ read′ e c
 
 abbrev pub SameSpots : Field → Site → (cells cells′ : ℕ → CellRead) → Type 0

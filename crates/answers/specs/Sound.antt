@@ -3,15 +3,15 @@ use Prim.Native.Nat.{ℕ, _≤_}
 use mathlib.Core.List.{List, [], _∷_}
 use lib.Dec.{eqb}
 use lib.ListN.{length, take, drop}
-use Rattle.rows.specs.declared.setup.Tile.{Tile}
-use Rattle.neighbours.specs.declared.read.Read.{Read}
+use Rattle.rows.specs.Setup.{Tile}
+use Rattle.spatial.specs.declared.neighbours.read.NeighbourRead.{NeighbourRead}
 use Rattle.stack.specs.declared.candidate.Candidate.{Candidate}
 use Rattle.stack.specs.declared.clamp.Reach.{Reach}
 use Rattle.stack.specs.Stable.{Falling}
 use Rattle.stack.proofs.Clips.{AllInside}
-use Rattle.around.specs.Around.{Went, refused, on, nearAll}
-use Rattle.front.specs.declared.ask.Ask.{Ask}
-use Rattle.front.specs.Ask.{wantOf, siteOf}
+use Rattle.spatial.specs.around.Around.{Went, refused, on, nearAll}
+use Rattle.search.specs.declared.front.ask.Ask.{Ask}
+use Rattle.search.specs.front.Ask.{wantOf, siteOf}
 use Rattle.search.specs.Find.{Finding}
 
 -- no candidate weighs less than n
@@ -24,7 +24,7 @@ abbrev pub countIn : Went → ℕ
 countIn (refused n) = 0
 countIn (on s above left) = length (s .cands)
 
-unfoldable pub nearCount : (ℕ → ℕ → Read) → Tile → Ask → ℕ
+unfoldable pub nearCount : (ℕ → ℕ → NeighbourRead) → Tile → Ask → ℕ
 nearCount read t a = countIn (nearAll read (siteOf t a) (eqb (a .decoded) 1) (wantOf a))
 
 -- the first n candidates and the others: either part falls in weight

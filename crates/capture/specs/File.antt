@@ -7,6 +7,7 @@ use lib.ListN.{length, getD, take, drop}
 use Rattle.ground.specs.Below.{allBelow}
 use Rattle.ground.specs.Little.{fourAt}
 use Rattle.ground.specs.Pick.{pick}
+use Rattle.jobs.specs.job.Bytes.{captureJob}
 use Rattle.capture.specs.declared.file.Scan.{Scan}
 use Rattle.capture.specs.declared.file.Scan.the-variants.{Malformed, Absent, Present}
 
@@ -40,7 +41,7 @@ isField k = leb 16 k && leb k 22
 
 unfoldable pub wholeBody : (kind n : ℕ) → Bool
 wholeBody k n =
-    pick (eqb k 1) (eqb n 67) (pick (eqb k 2) (eqb (n % 13) 0) (pick (eqb k 4) (eqb (n % 12) 0) (isField k && eqb (n % 5) 0)))
+    pick (eqb k 1) (eqb n 67) (pick (eqb k 2) (eqb (n % captureJob) 0) (pick (eqb k 4) (eqb (n % 12) 0) (isField k && eqb (n % 5) 0)))
 
 unfoldable pub kinds : List ℕ → Bool
 kinds f = allBelow (entries f) (λ i. wholeBody (kindAt f i) (lengthAt f i))

@@ -1,2 +1,3 @@
 -- The capture file (document 01, "Capture file").
 pub mod File
+pub mod player

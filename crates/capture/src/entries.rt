@@ -1,10 +1,12 @@
 // A capture file's entries, nine bytes each behind the first byte, and the rules that they obey.
 use ground::read::size_at;
+use jobs::job::job_bytes::CAPTURE_JOB;
 ghost use mathlib.Core.Path.{_≡_};
 ghost use mathlib.Core.Bool.{true};
 ghost use Prim.Native.Nat.{_+_, _*_, _≤_, _<_};
 ghost use lib.ListN.{length};
-ghost use Rattle.capture.specs.File.{entries, kindAt, offsetAt, lengthAt, startOf, hasEntries, tiled, isField, wholeBody, kinds, isNew, once, entryOf, wellFile};
+ghost use Rattle.capture.specs.File.{entries, kindAt, offsetAt, lengthAt, startOf, hasEntries, tiled};
+ghost use Rattle.capture.specs.File.{isField, wholeBody, kinds, isNew, once, entryOf, wellFile};
 
 const ENTRY: usize = 9;
 
@@ -91,7 +93,7 @@ fn is_whole(kind: usize, n: usize) -> bool
 {
     match kind {
         1 => n == 67,
-        2 => n % 13 == 0,
+        2 => n % CAPTURE_JOB == 0,
         4 => n % 12 == 0,
         k => {
             if is_field(k) {

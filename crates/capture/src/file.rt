@@ -4,13 +4,26 @@ use crate::entries::entry_of;
 use crate::entries::is_well;
 use crate::entries::start_of;
 ghost use mathlib.Core.Path.{_≡_};
-ghost use Rattle.capture.specs.File.{scanOf, partOf, bodyOf};
+ghost use mathlib.Core.Bool.{true};
+ghost use Rattle.capture.specs.File.{wellFile, scanOf, partOf, bodyOf};
 
 // Where the body of a kind starts and ends.
 pub enum Scan {
     Malformed,
     Absent,
     Present(usize, usize),
+}
+
+// What stands for a kind in a file whose rules are judged already.
+pub(crate) fn scan_in(file: &[u8], kind: u8) -> Scan
+    requires { ⌜ wellFile (now file) ≡ true ⌝ }
+    ensures { λ r. ⌜ r ≡ scanOf (now (file .entry)) kind ⌝ }
+{
+    let i = entry_of(file, kind as usize);
+    if entries_of(file) <= i {
+        return Scan::Absent;
+    }
+    Scan::Present(start_of(file, i), start_of(file, i + 1))
 }
 
 // Whether the file is malformed, has no entry of the kind, or has one.
@@ -20,11 +33,7 @@ pub fn scan_for(file: &[u8], kind: u8) -> Scan
     if !is_well(file) {
         return Scan::Malformed;
     }
-    let i = entry_of(file, kind as usize);
-    if entries_of(file) <= i {
-        return Scan::Absent;
-    }
-    Scan::Present(start_of(file, i), start_of(file, i + 1))
+    scan_in(file, kind)
 }
 
 fn part(file: &[u8], start: usize, end: usize) -> &[u8]
@@ -39,14 +48,25 @@ fn part(file: &[u8], start: usize, end: usize) -> &[u8]
     &file[start..end]
 }
 
-// The body of a kind, as that part of the lent file: empty for an absent kind or a malformed file.
-pub fn body(file: &[u8], kind: u8) -> &[u8]
+// The body of a kind in a file whose rules are judged already.
+pub(crate) fn body_in(file: &[u8], kind: u8) -> &[u8]
+    requires { ⌜ wellFile (now file) ≡ true ⌝ }
     ensures { λ r. ⌜ now r ≡ bodyOf (now (file .entry)) kind ⌝ }
 {
-    let s = scan_for(file, kind);
+    let s = scan_in(file, kind);
     match s {
         Scan::Present(start, end) => part(file, start, end),
         Scan::Absent => &file[0..0],
         Scan::Malformed => &file[0..0],
     }
+}
+
+// The body of a kind, as that part of the lent file: empty for an absent kind or a malformed file.
+pub fn body(file: &[u8], kind: u8) -> &[u8]
+    ensures { λ r. ⌜ now r ≡ bodyOf (now (file .entry)) kind ⌝ }
+{
+    if !is_well(file) {
+        return &file[0..0];
+    }
+    body_in(file, kind)
 }

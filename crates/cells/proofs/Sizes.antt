@@ -1,4 +1,5 @@
--- Every size is 1 to 32 units wide and high, and every code up to 21 has one: tests that the checker computes over the table, once. And what the `_` of the match knows.
+-- Every size is 1 to 32 units wide and high, and every code up to 21 has one: tests that the checker computes over the table, once. And what the `_`
+-- of the match knows.
 -- Assumes nothing.
 use mathlib.Core.Path.{_≡_, refl, sym, ap, _∙_, subst}
 use mathlib.Core.Bool.{Bool, true, false, _&&_, and-eq-true-iff, true≢false}

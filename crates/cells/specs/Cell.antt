@@ -6,7 +6,12 @@ use lib.IntN.{pos}
 use Rattle.ground.specs.Sign.{eqZ, fromTo}
 use Rattle.ground.specs.Twos.{byteAt, byteOf}
 use Rattle.vector.specs.Vector.{invalid, eqMv, within, mvAt, mvBytes}
+use Rattle.cells.specs.declared.cell.Ref.{Ref}
 use Rattle.cells.specs.declared.cell.Cell.{Cell}
+
+-- a reference frame, and neither INTRA nor NONE
+unfoldable pub isRef : Ref → Bool
+isRef r = fromTo (pos 1) (pos 7) (r .0)
 
 -- cell i of a buffer, and the bytes that hold a cell
 unfoldable pub cellAt : List ℕ → ℕ → Cell

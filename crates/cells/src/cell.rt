@@ -10,7 +10,7 @@ ghost use lib.IntN.{pos, natAbs};
 ghost use lib.ListN.{length};
 ghost use Rattle.ground.specs.Put.{put};
 ghost use Rattle.ground.specs.Sign.{eqZ, fromTo};
-ghost use Rattle.cells.specs.Cell.{cellAt, cellBytes, savedAbsent, projectedAbsent, wellSaved, wellProjected};
+ghost use Rattle.cells.specs.Cell.{isRef, cellAt, cellBytes, savedAbsent, projectedAbsent, wellSaved, wellProjected};
 
 // A reference frame, 1..7, INTRA or NONE; in a projected cell a distance, 1..31.
 pub struct Ref(pub i8);
@@ -32,7 +32,14 @@ impl Ref {
         if lo <= self.0 { self.0 <= hi } else { false }
     }
 
-    // The place of a reference, 1..7, in a table of seven.
+    // A reference frame, and neither INTRA nor NONE.
+    pub fn is_ref(self) -> bool
+        ensures { λ r. ⌜ r ≡ isRef self ⌝ }
+    {
+        self.from_to(1, 7)
+    }
+
+    // Its place in a table of seven.
     pub fn place(self) -> usize
         requires { ⌜ fromTo (pos 1) (pos 7) (self .0) ≡ true ⌝ }
         ensures { λ i. ⌜ (i ≡ natAbs (self .0) - 1) × (i ≤ 6) ⌝ }

@@ -2,17 +2,13 @@
 -- Assumes nothing.
 use mathlib.Core.Path.{_≡_, sym, _∙_}
 use mathlib.Core.Bool.{true, false, _||_}
-use mathlib.Core.List.{List}
-use Prim.Native.Nat.{ℕ, _≤_, _<_}
+use Prim.Native.Nat.{_≤_, _<_}
 use native.Mathlib.Omega.{arith}
 use lib.IntN.{ℤ, natAbs}
 use borrow.Author.Tests.{ltb-false}
 use Rattle.ground.specs.Sign.{below}
 use Rattle.ground.proofs.Picks.{pick-true, pick-false, or-off}
-use Rattle.hints.specs.declared.description.Description.{Description}
-use Rattle.hints.specs.Description.{hintAt, heldAt, ofHints}
-use Rattle.hints.specs.Distances.{fromCurrent}
-use Rattle.frame.specs.Mfmv.{far, offset, refToRef, mfmvOf}
+use Rattle.frame.specs.Mfmv.{far, offset}
 
 -- a distance that is not far is at most 31
 pub near : (z : ℤ) → far z ≡ false → natAbs z ≤ 31
@@ -30,9 +26,3 @@ offset-is z e f = sym (pick-false 0 (or-off e ∙ f))
 
 pub near-fits : (z : ℤ) → far z ≡ false → natAbs z < 32768
 near-fits z e = let h = near z e in omega arith
-
--- a projected reference, by the hints lent
-pub lent-mfmv : (d : Description) {xs ys : List ℕ} (r : ℕ) → xs ≡ d .hints → ys ≡ d .«hints_by_ref»
-    → mfmvOf (ofHints (d .«hint_bits») (d .«current_hint») xs ys) r ≡ mfmvOf d r
-unfolding mfmvOf fromCurrent refToRef hintAt heldAt
-lent-mfmv d r e f = rw (e, f)

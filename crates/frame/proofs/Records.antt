@@ -16,19 +16,19 @@ use Rattle.ground.specs.Sign.{below, clip3}
 use Rattle.ground.proofs.Picks.{and-on, both}
 use Rattle.ground.proofs.Signs.{clip3-is, abs-signed}
 use Rattle.ground.proofs.Belows.{all-of}
-use Rattle.hints.specs.declared.description.Description.{Description}
+use Rattle.frame.specs.declared.hints.description.Description.{Description}
 use Rattle.frame.specs.declared.mfmv.Ref2Cur.the-variants.{Skipped, At}
 use Rattle.frame.specs.declared.record.Frame.{Frame}
-use Rattle.extent.specs.Sizes.{limits, eighths, strideOf, sbszOf, partsOf, sizesOf, superblock, follows, wellSizes}
-use Rattle.hints.specs.Description.{under, flags, setupAnswer, hintAt}
-use Rattle.hints.specs.Distances.{flagOf, seven, fromCurrent, refHintOf, refHints, wellHint}
-use Rattle.hints.specs.Selection.{selected}
+use Rattle.frame.specs.extent.Sizes.{limits, eighths, strideOf, sbszOf, partsOf, sizesOf, superblock, follows, wellSizes}
+use Rattle.frame.specs.hints.Description.{under, flags, setupAnswer, hintAt}
+use Rattle.frame.specs.hints.Distances.{flagOf, seven, fromCurrent, refHintOf, refHints, wellHint}
+use Rattle.frame.specs.hints.Selection.{selected}
 use Rattle.frame.specs.Mfmv.{far, towards, offset, refToRef, mfmvOf, idle, noMfmv, slotOf, slots, wellCur, wellMfmv}
-use Rattle.hints.specs.Selection.{selectable}
+use Rattle.frame.specs.hints.Selection.{selectable}
 use Rattle.frame.specs.Record.{frameOf, noHint, wellFrame}
-use Rattle.hints.proofs.Described.{accepted-limits, accepted-flags}
+use Rattle.frame.proofs.hints.Described.{accepted-limits, accepted-flags}
 use Rattle.frame.proofs.Mfmvs.{near}
-use Rattle.hints.proofs.Selections.{selected-most, five}
+use Rattle.frame.proofs.hints.Selections.{selected-most, five}
 
 -- two tests that hold
 and : {s t : Bool} → s ≡ true → t ≡ true → (s && t) ≡ true

@@ -2,3 +2,5 @@
 pub mod Mfmv
 pub mod Record
 pub mod Worked
+pub mod extent
+pub mod hints

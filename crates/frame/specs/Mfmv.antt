@@ -8,14 +8,14 @@ use lib.ListN.{length, getD, replicate}
 use Rattle.ground.specs.Pick.{pick}
 use Rattle.ground.specs.Sign.{below}
 use Rattle.vector.specs.Hint.{distance}
-use Rattle.hints.specs.declared.description.Description.{Description}
-use Rattle.hints.specs.declared.select.Selection.{Selection}
+use Rattle.frame.specs.declared.hints.description.Description.{Description}
+use Rattle.frame.specs.declared.hints.select.Selection.{Selection}
 use Rattle.frame.specs.declared.mfmv.Mfmv.{Mfmv}
 use Rattle.frame.specs.declared.mfmv.Ref2Cur.{Ref2Cur}
 use Rattle.frame.specs.declared.mfmv.Ref2Cur.the-variants.{Skipped, At}
-use Rattle.hints.specs.Description.{under, hintAt, heldAt}
-use Rattle.hints.specs.Distances.{seven, fromCurrent}
-use Rattle.hints.specs.Selection.{last2Frame, selectable}
+use Rattle.frame.specs.hints.Description.{under, hintAt, heldAt}
+use Rattle.frame.specs.hints.Distances.{seven, fromCurrent}
+use Rattle.frame.specs.hints.Selection.{last2Frame, selectable}
 
 -- MAX_FRAME_DISTANCE: cells of a reference further off are never projected
 unfoldable pub far : ℤ → Bool

@@ -4,20 +4,16 @@ use mathlib.Core.Bool.{Bool, _&&_}
 use mathlib.Core.List.{List}
 use lib.Dec.{ltb, leb}
 use lib.IntN.{pos}
-use lib.ListN.{length, getD, replicate}
+use lib.ListN.{length, getD}
 use Rattle.ground.specs.Pick.{pick}
-use Rattle.ground.specs.Answer.{beside}
 use Rattle.ground.specs.Below.{allBelow}
-use Rattle.hints.specs.declared.description.Description.{Description}
-use Rattle.hints.specs.declared.distances.RefHint.{RefHint}
+use Rattle.frame.specs.declared.hints.description.Description.{Description}
+use Rattle.frame.specs.declared.hints.distances.RefHint.{RefHint}
 use Rattle.frame.specs.declared.record.Frame.{Frame}
-use Rattle.frame.specs.declared.record.Listed.{Listed}
-use Rattle.frame.specs.declared.setup.Setup.{Setup}
-use Rattle.extent.specs.Sizes.{sbszOf, sizesOf, wellSizes, savedCells, projectedCells, records}
-use Rattle.hints.specs.Description.{setupAnswer}
-use Rattle.hints.specs.Distances.{flagOf, refHints, wellHint}
-use Rattle.hints.specs.Selection.{selected}
-use Rattle.frame.specs.Mfmv.{idle, noMfmv, slots, wellMfmv}
+use Rattle.frame.specs.extent.Sizes.{sbszOf, sizesOf, wellSizes}
+use Rattle.frame.specs.hints.Distances.{flagOf, refHints, wellHint}
+use Rattle.frame.specs.hints.Selection.{selected}
+use Rattle.frame.specs.Mfmv.{noMfmv, slots, wellMfmv}
 
 unfoldable pub frameOf : Description → List ℕ → Frame
 frameOf d present =
@@ -30,23 +26,9 @@ frameOf d present =
       mfmvs = slots d (selected d present);
     }
 
--- the fixed record beside a refusal: no frame has it, since its width is 0
+-- what a read past the record's hints would give
 abbrev pub noHint : RefHint
 noHint = record { «sign_bias» = 0; «mfmv_sign» = 0; pocdiff = pos 0 }
-
-unfoldable pub noFrame : Frame
-noFrame =
-    record {
-      sizes = sizesOf 0 0 0 0 0 0;
-      «use_ref_frame_mvs» = 0;
-      temporal = 0;
-      refs = replicate 7 noHint;
-      «n_mfmvs» = 0;
-      mfmvs = replicate 3 idle;
-    }
-
-unfoldable pub setupOf : Description → List ℕ → Setup
-setupOf d present = record { answer = setupAnswer d present; frame = beside (setupAnswer d present) (frameOf d present) noFrame }
 
 -- each field is one that setup can give
 unfoldable pub wellFrame : Frame → Bool
@@ -56,9 +38,3 @@ wellFrame f =
 
 unfoldable pub checkAnswer : Frame → ℕ
 checkAnswer f = pick (wellFrame f) 0 1
-
-unfoldable pub listedOf : Frame → Listed
-listedOf f =
-    pick (wellFrame f)
-    (record { answer = 0; saved = savedCells (f .sizes); projected = projectedCells (f .sizes); records = records (f .sizes) })
-    (record { answer = 1; saved = 0; projected = 0; records = 0 })

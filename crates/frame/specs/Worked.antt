@@ -8,13 +8,13 @@ use Rattle.vector.specs.Precision.{lowered}
 use Rattle.vector.specs.Hint.{distance}
 use Rattle.vector.specs.Worked as vectors
 use Rattle.vector.specs.Worked.{Line}
-use Rattle.extent.specs.Sizes.{eighths, strideOf, partsOf, passesOf, sizesOf, records}
+use Rattle.frame.specs.extent.Sizes.{eighths, strideOf, partsOf, passesOf, sizesOf, records}
 
 -- P1 to P8, then P9: width 1,920, one thread each way
 abbrev pub table : List Line
 table =
     vectors.table
-    ++ (record { got = pos (sizesOf 1920 1080 16 1 1 1 .stride); want = pos 240 }
+    ++ (record { got = pos (sizesOf 1920 1080 16 1 1 1 .stride .0); want = pos 240 }
     ∷ record { got = pos (records (sizesOf 1920 1080 16 1 1 1)); want = pos 16801 }
     ∷ [])
 

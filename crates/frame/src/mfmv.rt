@@ -1,23 +1,24 @@
 // A reference that is projected: where it stands to the current frame, and its own references to it.
+use crate::hints::description::Description;
+use crate::hints::description::held_in;
+use crate::hints::description::wide;
+use crate::hints::distances::near;
+use crate::hints::select::ALTREF;
+use crate::hints::select::BWDREF;
+use crate::hints::select::LAST2;
+use crate::hints::select::Selection;
 use ground::sign::magnitude;
 use ground::sign::negative;
-use hints::description::held_in;
-use hints::description::wide;
-use hints::distances::near;
-use hints::select::ALTREF;
-use hints::select::BWDREF;
-use hints::select::LAST2;
 use vector::hint::get_poc_diff;
 ghost use mathlib.Core.Path.{_≡_};
 ghost use mathlib.Core.Bool.{true};
 ghost use Prim.Native.Nat.{_+_, _*_, _≤_, _<_, _^_};
 ghost use lib.ListN.{length, getD};
-ghost use Rattle.ground.specs.Pick.{pick};
 ghost use Rattle.vector.specs.Hint.{distance};
-ghost use Rattle.hints.specs.Description.{under, hinted, ofHints};
-ghost use Rattle.hints.specs.Distances.{seven};
-ghost use Rattle.frame.specs.Mfmv.{far, towards, offset, mfmvOf, idle, wellCur, wellMfmv};
-ghost use Rattle.hints.specs.Selection.{selectable};
+ghost use Rattle.frame.specs.hints.Description.{under, hinted};
+ghost use Rattle.frame.specs.hints.Distances.{seven};
+ghost use Rattle.frame.specs.Mfmv.{far, towards, offset, mfmvOf, idle, slotIn, wellCur, wellMfmv};
+ghost use Rattle.frame.specs.hints.Selection.{selectable};
 
 // A reference more than 31 away is skipped: it counts as selected, and none of its cells lands.
 pub enum Ref2Cur {
@@ -88,13 +89,15 @@ fn refs2ref(bits: u32, held: &[u8], here: u32, r: usize) -> [u8; 7]
     ]
 }
 
-fn mfmv_of(bits: u32, current: u32, hints: &[u8], held: &[u8], reference: u8) -> Mfmv
-    requires { ⌜ (hinted (ofHints bits current (now hints) (now held)) ≡ true) × (length (now hints) ≡ 7) × (length (now held) ≡ 49) × (reference < 7) ⌝ }
-    ensures { λ r. ⌜ r ≡ mfmvOf (ofHints bits current (now (hints .entry)) (now (held .entry))) reference ⌝ }
+// d's hints, and those that the references' own frames held, are lent beside it: an array is copied
+// where a byte of it is read, for each byte anew.
+fn mfmv_of(d: Description, hints: &[u8], held: &[u8], reference: u8) -> Mfmv
+    requires { ⌜ (now hints ≡ d .hints) × (now held ≡ d .«hints_by_ref») × (hinted d ≡ true) × (reference < 7) ⌝ }
+    ensures { λ r. ⌜ r ≡ mfmvOf d reference ⌝ }
 {
     let r = place(reference);
     let here = wide(hints[r]);
-    let there = get_poc_diff(bits, here, current);
+    let there = get_poc_diff(d.hint_bits, here, d.current_hint);
     let cur = toward_current(there, reference);
     if is_far(there) {
         return Mfmv {
@@ -106,7 +109,7 @@ fn mfmv_of(bits: u32, current: u32, hints: &[u8], held: &[u8], reference: u8) ->
     Mfmv {
         reference,
         ref2cur: cur,
-        ref2ref: refs2ref(bits, held, here, r),
+        ref2ref: refs2ref(d.hint_bits, held, here, r),
     }
 }
 
@@ -117,7 +120,7 @@ fn place(reference: u8) -> usize
 }
 
 // What stands where nothing is selected.
-pub(crate) fn idle_mfmv() -> Mfmv
+fn idle_mfmv() -> Mfmv
     ensures { λ r. ⌜ r ≡ idle ⌝ }
 {
     Mfmv {
@@ -127,14 +130,15 @@ pub(crate) fn idle_mfmv() -> Mfmv
     }
 }
 
-// A place of a selection. The hints are lent and not handed over with the description: an array is
-// copied where a byte of it is read, for each byte anew.
-pub fn slot(bits: u32, current: u32, hints: &[u8], held: &[u8], taken: bool, reference: u8) -> Mfmv
-    requires { ⌜ (hinted (ofHints bits current (now hints) (now held)) ≡ true) × (length (now hints) ≡ 7) × (length (now held) ≡ 49) × (reference < 7) ⌝ }
-    ensures { λ r. ⌜ r ≡ pick taken (mfmvOf (ofHints bits current (now (hints .entry)) (now (held .entry))) reference) idle ⌝ }
+// Place i of a selection.
+pub fn slot(d: Description, hints: &[u8], held: &[u8], c: Selection, i: usize) -> Mfmv
+    requires { ⌜ (now hints ≡ d .hints) × (now held ≡ d .«hints_by_ref») × (hinted d ≡ true) ⌝ }
+    requires { ⌜ (i < 3) × (getD (c .refs) i 0 < 7) ⌝ }
+    ensures { λ r. ⌜ r ≡ slotIn d c i ⌝ }
 {
-    if taken {
-        return mfmv_of(bits, current, hints, held, reference);
+    let refs = c.refs;
+    if i < c.n {
+        return mfmv_of(d, hints, held, refs[i]);
     }
     idle_mfmv()
 }

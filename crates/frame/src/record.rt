@@ -1,13 +1,13 @@
 // The finished record of a frame, which every later call is handed and checks.
+use crate::extent::sizes::Sizes;
+use crate::hints::distances::RefHint;
 use crate::mfmv::Mfmv;
-use extent::sizes::Sizes;
-use hints::distances::RefHint;
 ghost use mathlib.Core.Path.{_≡_};
 ghost use Rattle.ground.specs.Below.{allBelow};
 ghost use lib.ListN.{getD};
-ghost use Rattle.hints.specs.Distances.{wellHint};
+ghost use Rattle.frame.specs.hints.Distances.{wellHint};
 ghost use Rattle.frame.specs.Mfmv.{noMfmv, wellMfmv};
-ghost use Rattle.frame.specs.Record.{noHint, wellFrame, checkAnswer, listedOf};
+ghost use Rattle.frame.specs.Record.{noHint, wellFrame};
 
 // use_ref_frame_mvs is 1 where a reference is selected, temporal is the header's flag. The first
 // n_mfmvs of mfmvs are selected.
@@ -72,40 +72,5 @@ impl Frame {
         }
         let mfmvs = self.mfmvs;
         well_mfmvs(mfmvs)
-    }
-}
-
-// The answer to a finished record that is handed in: 1 where it isn't one that setup gives.
-pub fn check(f: Frame) -> u8
-    ensures { λ r. ⌜ r ≡ checkAnswer f ⌝ }
-{
-    if f.well_formed() { 0 } else { 1 }
-}
-
-// What a caller has to lend for a frame: cells of a saved field, cells of the projection, records.
-pub struct Listed {
-    pub answer: u8,
-    pub saved: usize,
-    pub projected: usize,
-    pub records: usize,
-}
-
-pub fn listed_sizes(f: Frame) -> Listed
-    ensures { λ r. ⌜ r ≡ listedOf f ⌝ }
-{
-    if !f.well_formed() {
-        return Listed {
-            answer: 1,
-            saved: 0,
-            projected: 0,
-            records: 0,
-        };
-    }
-    let s = f.sizes;
-    Listed {
-        answer: 0,
-        saved: s.saved_cells(),
-        projected: s.projected_cells(),
-        records: s.records(),
     }
 }

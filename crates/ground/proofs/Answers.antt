@@ -7,7 +7,7 @@ use Prim.Native.Nat.{ℕ, zero, suc}
 use native.Mathlib.Omega.{arith}
 use Rattle.ground.specs.Pick.{pick}
 use Rattle.ground.specs.Script.{Patch, run, Avoids, Inside}
-use Rattle.ground.specs.Answer.{orElse, beside, accepted}
+use Rattle.ground.specs.Answer.{orElse, accepted}
 
 -- a table's line that did not refuse: its test failed, and the rest accepts
 pub refused-not : (t : Bool) (n r : ℕ) → pick t (suc n) r ≡ 0 → (t ≡ false) × (r ≡ 0)
@@ -25,16 +25,6 @@ or-accepts m n e = rw e
 pub or-refuses : (m n : ℕ) → (m ≡ 0 → ⊥) → orElse m n ≡ m
 or-refuses zero n h = absurd (h refl)
 or-refuses (suc m) n h = refl
-
--- what stands beside an answer
-pub beside-accepted : {A : Type 0} (n : ℕ) (value fixed : A) → n ≡ 0 → value ≡ beside n value fixed
-unfolding beside
-beside-accepted n value fixed e = rw e
-
-pub beside-refused : {A : Type 0} (n : ℕ) (value fixed : A) → (n ≡ 0 → ⊥) → fixed ≡ beside n value fixed
-unfolding beside
-beside-refused zero value fixed h = absurd (h refl)
-beside-refused (suc n) value fixed h = refl
 
 -- an accepted call runs its script, a refused one leaves the buffer
 pub run-accepted : (n : ℕ) (ps : List Patch) (l : List ℕ) → n ≡ 0 → run ps l ≡ run (accepted n ps) l

@@ -1,4 +1,5 @@
--- `omega` reads ℕ and no ℤ. `subℕ a b` is the integer a - b of two naturals: a sum, a negation and a test of such differences is again one, or a test in ℕ, and two are equal where an equation in ℕ holds, which `omega` proves.
+-- Integers as differences of naturals, so that `omega`, which reads ℕ and no ℤ, decides linear facts of them. `subℕ a b` is the integer a - b of two
+-- naturals: a sum, a negation and a test of such differences is again one, or a test in ℕ, and two are equal where an equation in ℕ holds.
 -- A linear fact about integers is: each side as one difference (`as-pos`, `as-neg`, `add`, `neg`), and `diff` between them.
 -- Assumes nothing.
 use mathlib.Core.Path.{_≡_, refl, sym, ap, ap₂, _∙_}

@@ -1,4 +1,5 @@
--- Sign and magnitude: a number is its magnitude with its sign, a product's sign is by the two signs, and a function of magnitudes that sends 0 to 0 keeps the sign.
+-- Sign and magnitude: a number is its magnitude with its sign, a product's sign is by the two signs, and a function of magnitudes that sends 0 to 0
+-- keeps the sign.
 -- Assumes nothing.
 use mathlib.Core.Path.{_≡_, refl, sym, ap, ap₂, _∙_}
 use mathlib.Core.Bool.{Bool, true, false, not, Bool·beq, true≢false, and-eq-true-iff}

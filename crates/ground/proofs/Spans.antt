@@ -193,3 +193,12 @@ module _ (f : ℕ → ℕ) where
       go : (n a : ℕ) → ((x : ℕ) → a ≤ x → x < a + n → f x ≡ 0) → firstOver f n a ≡ 0
       go zero a h = refl
       go (suc n) a h = or-accepts (f a) (firstOver f n (suc a)) (h a (omega arith) (omega arith)) ∙ go n (suc a) (λ x l m. h x (omega arith) (omega arith))
+
+-- two that answer the same at each place
+pub ask-alike : (f g : ℕ → ℕ) (a e : ℕ) → ((x : ℕ) → a ≤ x → x < e → f x ≡ g x) → firstOf f a e ≡ firstOf g a e
+unfolding firstOf firstOver
+ask-alike f g a e h = go (e - a) a (λ x p q. h x p (omega arith))
+  where
+    go : (n a : ℕ) → ((x : ℕ) → a ≤ x → x < a + n → f x ≡ g x) → firstOver f n a ≡ firstOver g n a
+    go zero a h = refl
+    go (suc n) a h = ap₂ orElse (h a (omega arith) (omega arith)) (go n (suc a) (λ x p q. h x (omega arith) (omega arith)))

@@ -8,11 +8,6 @@ abbrev pub orElse : ℕ → ℕ → ℕ
 orElse zero n = n
 orElse (suc m) n = suc m
 
--- what stands beside an answer: the value of an accepted call, a fixed one beside a refusal
-unfoldable pub beside : {A : Type 0} → ℕ → A → A → A
-beside zero value fixed = value
-beside (suc n) value fixed = fixed
-
 -- what a call that answers n writes: its script where it is accepted, nothing where it is refused
 abbrev pub accepted : ℕ → List Patch → List Patch
 accepted zero ps = ps

@@ -53,7 +53,9 @@ fn whole(a: u8, b: u8, c: u8, d: u8) -> u32
 // Four bytes in one number, to be taken apart again.
 pub fn word_at(s: &[u8], at: usize) -> u32
     requires { ⌜ at + 4 ≤ length (now s) ⌝ }
-    ensures { λ r. ⌜ fourBytes r ≡ getD (now (s .entry)) at 0 ∷ getD (now (s .entry)) (at + 1) 0 ∷ getD (now (s .entry)) (at + 2) 0 ∷ getD (now (s .entry)) (at + 3) 0 ∷ [] ⌝ }
+    ensures { λ r. ⌜ fourBytes r
+        ≡ getD (now (s .entry)) at 0 ∷ getD (now (s .entry)) (at + 1) 0
+        ∷ getD (now (s .entry)) (at + 2) 0 ∷ getD (now (s .entry)) (at + 3) 0 ∷ [] ⌝ }
 {
     whole(s[at], s[at + 1], s[at + 2], s[at + 3])
 }

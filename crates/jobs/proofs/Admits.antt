@@ -6,25 +6,24 @@ use Prim.Native.Nat.{ℕ, _<_}
 use native.Mathlib.Omega.{arith}
 use lib.ListN.{length}
 use Rattle.ground.specs.Pick.{pick}
-use Rattle.ground.specs.Span.{firstOf}
 use Rattle.ground.proofs.Answers.{both-accept, or-accepts, or-refuses}
 use Rattle.ground.proofs.Spans.{all-accept}
 use Rattle.frame.specs.Record.{wellFrame}
-use Rattle.saving.specs.Area.{wellArea}
-use Rattle.loading.specs.Load.{lengthsOf}
-use Rattle.job.specs.declared.record.Job.{Job}
-use Rattle.job.specs.declared.record.Batch.{Batch}
-use Rattle.job.specs.declared.record.Lengths.{Lengths}
-use Rattle.job.specs.Job.{jobAt, wellBatch, jobFront}
-use Rattle.job.specs.Needs.{Able}
-use Rattle.job.proofs.Batches.{formed}
-use Rattle.job.proofs.Fronts.{Front, front}
-use Rattle.jobs.specs.Needs.{Areas}
-use Rattle.jobs.specs.Admit.{Handed, lengthsIn, frontOf, jobReads, jobAnswer, apart, batchAnswer}
+use Rattle.motion.specs.saving.Area.{wellArea}
+use Rattle.motion.specs.loading.Fields.{lengthsOf}
+use Rattle.jobs.specs.declared.job.record.Job.{Job}
+use Rattle.jobs.specs.declared.job.record.Batch.{Batch}
+use Rattle.jobs.specs.declared.job.record.Lengths.{Lengths}
+use Rattle.jobs.specs.job.Job.{jobAt, wellBatch, jobFront}
+use Rattle.jobs.specs.Code.Step.{Able}
+use Rattle.jobs.proofs.job.Batches.{formed}
+use Rattle.jobs.proofs.job.Fronts.{Front, front}
+use Rattle.jobs.specs.Code.Admit.{Areas}
+use Rattle.jobs.specs.Admit.{Handed, lengthsIn, sourcesIn, frontOf, jobReads, jobAnswer, jobsAnswer, apart, batchAnswer}
 
 -- a job's front, by lengths that are those of what is handed
-pub front-told : (h : Handed) (j : Job) {n : Lengths} {r : ℕ} → n ≡ lengthsIn h → r ≡ jobFront (h .frame) (h .present) n j → r ≡ frontOf h j
-front-told h j p e = e ∙ ap (λ (m : Lengths). jobFront (h .frame) (h .present) m j) p
+pub front-told : (h : Handed) (j : Job) {n : Lengths} {r : ℕ} → n ≡ lengthsIn h → r ≡ jobFront (h .frame) (h .lent) n j → r ≡ frontOf h j
+front-told h j p e = e ∙ ap (λ (m : Lengths). jobFront (h .frame) (h .lent) m j) p
 
 -- ONE JOB'S TWO WAYS OUT
 module _ (h : Handed) (j : Job) {r : ℕ} (e : r ≡ frontOf h j) where
@@ -34,23 +33,20 @@ module _ (h : Handed) (j : Job) {r : ℕ} (e : r ≡ frontOf h j) where
 
   pub to-check : r ≡ 0
       → ((wellFrame (h .frame) ≡ true) × (wellArea (h .frame .sizes) (j .area) ≡ true)) × Able (h .frame) j (lengthsOf (h .fields)) (length (h .recs))
-  to-check z = let p = front (h .frame) (h .present) (lengthsIn h) j (sym e ∙ z) in ((p .frame, p .area), p .able)
+  to-check z = let p = front (h .frame) (h .lent) (lengthsIn h) j (sym e ∙ z) in ((p .frame, p .area), p .able)
 
-  pub reads-answer : r ≡ 0 → {q : ℕ} → q ≡ jobReads (h .frame) (h .fields) (h .recs) j → q ≡ jobAnswer h j
+  pub reads-answer : r ≡ 0 → {q : ℕ} → q ≡ jobReads (h .frame) (sourcesIn h) (h .recs) j → q ≡ jobAnswer h j
   unfolding jobAnswer
   reads-answer z k = k ∙ sym (or-accepts (frontOf h j) _ (sym e ∙ z))
 
--- every job's own refusals
-abbrev pub jobsAnswer : Handed → Batch → ℕ
-jobsAnswer h b = firstOf (λ i. jobAnswer h (jobAt b i)) 0 (b .n)
-
+-- every job's area
 pub areas : (h : Handed) (b : Batch) → wellBatch b ≡ true → {r : ℕ} → r ≡ jobsAnswer h b → r ≡ 0 → Areas (h .frame) b (b .n)
 unfolding jobAnswer
 areas h b w e z = record { frame = shown 0 (omega (arith, formed b w .some)) .frame; few = formed b w .few; each = λ i g. shown i g .area }
   where
     shown : (i : ℕ) → i < b .n → Front (h .frame) (lengthsIn h) (jobAt b i)
     shown i g =
-        front (h .frame) (h .present) (lengthsIn h) (jobAt b i)
+        front (h .frame) (h .lent) (lengthsIn h) (jobAt b i)
         (both-accept (frontOf h (jobAt b i)) _ (all-accept _ 0 (b .n) i (sym e ∙ z) (omega arith) g) .0)
 
 -- THE BATCH'S WAYS OUT

@@ -1,4 +1,6 @@
 -- Jobs and windows (document 01): a batch's admission, a step.
-pub mod Needs
 pub mod Admit
 pub mod Step
+pub mod job
+pub mod work
+pub mod Code

@@ -1,3 +1,5 @@
-// Jobs: a batch admitted together, and one step of a job.
+// Jobs: loads and saves as records, a batch of them admitted together, and one step of a job.
 pub mod admit;
+pub mod job;
 pub mod step;
+pub mod work;

@@ -1,17 +1,18 @@
 // One step of a job.
 use crate::admit::lengths_of;
+use crate::job::front::job_front;
+use crate::job::record::Job;
+use crate::job::record::count_of;
+use crate::work::row::check_work;
+use crate::work::row::do_work;
 use frame::record::Frame;
-use job::front::job_front;
-use job::record::Job;
-use job::record::count_of;
-use work::row::check_work;
-use work::row::do_work;
+use motion::loading::fields::Lent;
 ghost use mathlib.Core.Path.{_≡_};
 ghost use lib.ListN.{length};
 ghost use Rattle.ground.specs.Script.{run};
-ghost use Rattle.loading.specs.Load.{lent};
+ghost use Rattle.motion.specs.loading.Fields.{three};
 ghost use Rattle.jobs.specs.Admit.{handed};
-ghost use Rattle.jobs.specs.Step.{answerOf, numberOf, stepNumber, stepDone, stepProj, stepSaved};
+ghost use Rattle.jobs.specs.Step.{answerOf, numberOf, stepNumber, stepped, stepProj, stepSaved};
 
 // What a step answers: one more row done, nothing left to do, or a refusal number.
 pub enum Answer {
@@ -55,57 +56,56 @@ pub fn number_of(a: Answer) -> u8
 fn step_number<'a>(
     job: Job,
     f: Frame,
-    present: [u8; 7],
-    f0: &'a [u8],
-    f1: &'a [u8],
-    f2: &'a [u8],
-    f3: &'a [u8],
-    f4: &'a [u8],
-    f5: &'a [u8],
-    f6: &'a [u8],
+    lent: Lent,
+    first: &'a [u8],
+    second: &'a [u8],
+    third: &'a [u8],
     recs: &[u8],
     proj: usize,
     saved: usize,
 ) -> u8
-    ensures { λ r. ⌜ r ≡ stepNumber (handed f present (lent (now (f0 .entry)) (now (f1 .entry)) (now (f2 .entry)) (now (f3 .entry)) (now (f4 .entry)) (now (f5 .entry)) (now (f6 .entry))) (now (recs .entry)) proj saved) job ⌝ }
+    ensures { λ r. ⌜ r ≡ stepNumber
+        (handed f lent (three (now (first .entry)) (now (second .entry)) (now (third .entry))) (now (recs .entry)) proj saved) job ⌝ }
 {
     if !job.well_kind() {
         return 12;
     }
-    let n = lengths_of(f0, f1, f2, f3, f4, f5, f6, recs, proj, saved);
-    let front = job_front(f, present, n, job);
+    let n = lengths_of(first, second, third, recs, proj, saved);
+    let front = job_front(f, lent, n, job);
     if front != 0 {
         return front;
     }
     if job.done == count_of(f, job) {
         return DONE;
     }
-    check_work(f, job, job.done, f0, f1, f2, f3, f4, f5, f6, recs)
+    check_work(f, job, job.done, first, second, third, recs)
 }
 
 // A refused step, and a finished job's, leave both buffers and the number of steps done.
 pub fn step_row<'a>(
     job: Job,
     f: Frame,
-    present: [u8; 7],
-    f0: &'a [u8],
-    f1: &'a [u8],
-    f2: &'a [u8],
-    f3: &'a [u8],
-    f4: &'a [u8],
-    f5: &'a [u8],
-    f6: &'a [u8],
+    lent: Lent,
+    first: &'a [u8],
+    second: &'a [u8],
+    third: &'a [u8],
     recs: &[u8],
     proj: &mut [u8],
     saved: &mut [u8],
 ) -> Stepped
-    ensures { λ r. ⌜ r ≡ record { answer = answerOf (stepNumber (handed f present (lent (now (f0 .entry)) (now (f1 .entry)) (now (f2 .entry)) (now (f3 .entry)) (now (f4 .entry)) (now (f5 .entry)) (now (f6 .entry))) (now (recs .entry)) (length (now (proj .entry))) (length (now (saved .entry)))) job); done = stepDone (handed f present (lent (now (f0 .entry)) (now (f1 .entry)) (now (f2 .entry)) (now (f3 .entry)) (now (f4 .entry)) (now (f5 .entry)) (now (f6 .entry))) (now (recs .entry)) (length (now (proj .entry))) (length (now (saved .entry)))) job } ⌝ }
-    ensures { λ _. ⌜ now (proj .exit) ≡ run (stepProj (handed f present (lent (now (f0 .entry)) (now (f1 .entry)) (now (f2 .entry)) (now (f3 .entry)) (now (f4 .entry)) (now (f5 .entry)) (now (f6 .entry))) (now (recs .entry)) (length (now (proj .entry))) (length (now (saved .entry)))) job) (now (proj .entry)) ⌝ }
-    ensures { λ _. ⌜ now (saved .exit) ≡ run (stepSaved (handed f present (lent (now (f0 .entry)) (now (f1 .entry)) (now (f2 .entry)) (now (f3 .entry)) (now (f4 .entry)) (now (f5 .entry)) (now (f6 .entry))) (now (recs .entry)) (length (now (proj .entry))) (length (now (saved .entry)))) job) (now (saved .entry)) ⌝ }
+    ensures { λ r. ⌜ r ≡ stepped
+        (handed f lent (three (now (first .entry)) (now (second .entry)) (now (third .entry)))
+        (now (recs .entry)) (length (now (proj .entry))) (length (now (saved .entry)))) job ⌝ }
+    ensures { λ _. ⌜ now (proj .exit) ≡ run (stepProj
+        (handed f lent (three (now (first .entry)) (now (second .entry)) (now (third .entry)))
+        (now (recs .entry)) (length (now (proj .entry))) (length (now (saved .entry)))) job) (now (proj .entry)) ⌝ }
+    ensures { λ _. ⌜ now (saved .exit) ≡ run (stepSaved
+        (handed f lent (three (now (first .entry)) (now (second .entry)) (now (third .entry)))
+        (now (recs .entry)) (length (now (proj .entry))) (length (now (saved .entry)))) job) (now (saved .entry)) ⌝ }
 {
     let n = proj.len();
     let m = saved.len();
-    let number = step_number(job, f, present, f0, f1, f2, f3, f4, f5, f6, recs, n, m);
+    let number = step_number(job, f, lent, first, second, third, recs, n, m);
     let k = job.done;
     if number != 0 {
         return Stepped {
@@ -113,7 +113,7 @@ pub fn step_row<'a>(
             done: k,
         };
     }
-    do_work(f, job, k, f0, f1, f2, f3, f4, f5, f6, recs, proj, saved);
+    do_work(f, job, k, first, second, third, recs, proj, saved);
     Stepped {
         answer: Answer::Moved,
         done: k + 1,

@@ -13,15 +13,16 @@ use lib.Seq.{set-set, set-comm}
 use Rattle.ground.specs.Put.{put, copies}
 use Rattle.ground.specs.Little.{fourBytes, fours}
 use Rattle.ground.proofs.Puts.{put-append, put-length, copies-length}
-use Rattle.extent.specs.declared.sizes.Sizes.{Sizes}
-use Rattle.extent.specs.Sizes.{superblock, partOf}
+use Rattle.frame.specs.declared.extent.sizes.Sizes.{Sizes}
+use Rattle.frame.specs.extent.Sizes.{superblock, partOf}
 use Rattle.ground.specs.Tab.{tab}
-use Rattle.rows.specs.Table.{offsetOf, partner, rowOf, rowAt, placed, entryAt, tableOf}
+use Rattle.rows.specs.Table.{none, offsetOf, partner, rowOf, rowAt, placed, entryAt, tableOf}
 use Rattle.rows.specs.declared.setup.TileRange.{TileRange}
+use Rattle.rows.specs.declared.setup.SbRow.{SbRow}
 use Rattle.rows.specs.Setup.{partStart, oddRow, tableFor, cutTo, tileOf}
 use Rattle.rows.proofs.Tabled.{sides, off-fits}
 use Rattle.layout.specs.FrameBytes.{sizesAt, frameAt}
-use Rattle.layout.specs.TileBytes.{absentMark, placeNumber, entryNumber, boundNumbers, tileBytes}
+use Rattle.layout.specs.TileBytes.{absentMark, placeNumber, entryBytes, entryNumber, boundNumbers, tileBytes}
 use Rattle.layout.proofs.Pieces.{as-one}
 
 -- numbers laid one behind the other: one more, and none left
@@ -82,7 +83,7 @@ three-over l xs at a b c h =
     (over l y (4 * (at + 4)) (fourBytes c) (omega arith))
 
 abbrev blank : List ℕ
-blank = copies 148 (255 ∷ [])
+blank = copies 37 (entryBytes none)
 
 abbrev own : (n off first stride : ℕ) → List ℕ → List ℕ
 own n off first stride s = put s (4 * (off + 5)) (fours (tab (λ i. first + i * stride) 0 n))
@@ -124,10 +125,10 @@ module _ (s : List ℕ) (n first stride : ℕ) (sb : superblock n ≡ true) wher
   own-laid : (odd : Bool) → own n (offsetOf n odd) first stride (put s 0 blank) ≡ put s 0 (own n (offsetOf n odd) first stride blank)
   own-laid odd =
       over s blank (4 * (offsetOf n odd + 5)) (fours (tab (λ i. first + i * stride) 0 n))
-      (omega (arith, off-fits n odd sb, rows-long (λ i. first + i * stride) 0 n, copies-length 148 (255 ∷ [])))
+      (omega (arith, off-fits n odd sb, rows-long (λ i. first + i * stride) 0 n, copies-length 37 (entryBytes none)))
 
   own-long : (odd : Bool) → length (own n (offsetOf n odd) first stride blank) ≡ 148
-  own-long odd = put-length blank (4 * (offsetOf n odd + 5)) (fours (tab (λ i. first + i * stride) 0 n)) ∙ copies-length 148 (255 ∷ [])
+  own-long odd = put-length blank (4 * (offsetOf n odd + 5)) (fours (tab (λ i. first + i * stride) 0 n)) ∙ copies-length 37 (entryBytes none)
 
   pub even-table : (odd : Bool) {off : ℕ} {t u v : List ℕ} → odd ≡ false → off ≡ offsetOf n odd → t ≡ put s 0 blank → u ≡ own n off first stride t
       → v ≡ three u off (first + n * stride) (first + n * stride + stride) (first + n * stride + 2 * stride)
@@ -163,13 +164,13 @@ module _ (s : List ℕ) (n first stride : ℕ) (sb : superblock n ≡ true) wher
       (omega (arith, m .last))))
 
 -- a tile: its table, and its bounds behind it
-pub tile-laid : (s l : List ℕ) (col row : TileRange) (sby tile pass : ℕ) {z : Sizes} {first proj : ℕ} {c r : TileRange} {t u : List ℕ}
-    → z ≡ sizesAt l → first ≡ partStart z (partOf z tile) pass
-    → t ≡ put s 0 (fours (tab (entryNumber (tableOf (z .sbsz) (oddRow sby) first (2 * z .stride))) 0 37))
-    → proj ≡ 16 * (partOf z tile * z .stride) → c ≡ cutTo (z .iw4 .0) col → r ≡ cutTo (z .ih4 .0) row
-    → u ≡ put t 148 (fours (proj ∷ min (c .start .0) absentMark ∷ c .end .0 ∷ min (r .start .0) absentMark ∷ r .end .0 ∷ []))
-    → u ≡ put s 0 (tileBytes (tileOf (frameAt l) col row sby tile pass))
+pub tile-laid : (s l : List ℕ) (r : SbRow) {z : Sizes} {long first proj : ℕ} {c d : TileRange} {t u : List ℕ}
+    → z ≡ sizesAt l → long ≡ 2 * z .stride .0 → first ≡ partStart z (partOf z (r .tile)) (r .pass)
+    → t ≡ put s 0 (fours (tab (entryNumber (tableOf (z .sbsz .0) (oddRow (r .sby)) first long)) 0 37))
+    → proj ≡ 16 * (partOf z (r .tile) * z .stride .0) → c ≡ cutTo (z .iw4 .0) (r .col) → d ≡ cutTo (z .ih4 .0) (r .row)
+    → u ≡ put t 148 (fours (proj ∷ min (c .start .0) absentMark ∷ c .end .0 ∷ min (d .start .0) absentMark ∷ d .end .0 ∷ []))
+    → u ≡ put s 0 (tileBytes (tileOf (frameAt l) r))
 unfolding frameAt tileOf tableFor tileBytes boundNumbers tab fours
-tile-laid s l col row sby tile pass e f g h k m n =
-    let made = tileOf (frameAt l) col row sby tile pass in
-    rw (n, g, f, h, k, m, e) (as-one s 0 (fours (tab (entryNumber (made .rows)) 0 37)) (fours (boundNumbers made) ∷ []))
+tile-laid s l r e j f g h k m n =
+    let made = tileOf (frameAt l) r in
+    rw (n, g, j, f, h, k, m, e) (as-one s 0 (fours (tab (entryNumber (made .rows)) 0 37)) (fours (boundNumbers made) ∷ []))

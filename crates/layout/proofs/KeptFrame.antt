@@ -21,21 +21,21 @@ use Rattle.ground.specs.Little.{fours}
 use Rattle.ground.proofs.Picks.{both}
 use Rattle.ground.proofs.Belows as belows
 use Rattle.ground.proofs.Littles.{four-whole}
-use Rattle.hints.specs.declared.description.Description.{Description}
-use Rattle.extent.specs.declared.sizes.Sizes.{Sizes}
-use Rattle.hints.specs.declared.distances.RefHint.{RefHint}
+use Rattle.frame.specs.declared.hints.description.Description.{Description}
+use Rattle.frame.specs.declared.extent.sizes.Sizes.{Sizes}
+use Rattle.frame.specs.declared.hints.distances.RefHint.{RefHint}
 use Rattle.frame.specs.declared.mfmv.Mfmv.{Mfmv}
 use Rattle.frame.specs.declared.mfmv.Ref2Cur.{Ref2Cur}
 use Rattle.frame.specs.declared.mfmv.Ref2Cur.the-variants.{Skipped, At}
 use Rattle.frame.specs.declared.record.Frame.{Frame}
-use Rattle.hints.specs.Description.{under, setupAnswer, hintAt}
-use Rattle.hints.specs.Distances.{seven, refHints, fromCurrent, wellHint}
-use Rattle.hints.specs.Selection.{selected}
+use Rattle.frame.specs.hints.Description.{under, setupAnswer, hintAt}
+use Rattle.frame.specs.hints.Distances.{seven, refHints, fromCurrent, wellHint}
+use Rattle.frame.specs.hints.Selection.{selected}
 use Rattle.frame.specs.Mfmv.{far, towards, refToRef, mfmvOf, idle, noMfmv, slotOf, slots, wellCur, wellMfmv}
-use Rattle.hints.specs.Selection.{selectable}
-use Rattle.extent.specs.Sizes.{wellSizes}
+use Rattle.frame.specs.hints.Selection.{selectable}
+use Rattle.frame.specs.extent.Sizes.{wellSizes}
 use Rattle.frame.specs.Record.{frameOf, noHint, wellFrame}
-use Rattle.extent.proofs.Sizing.{Fits, fits, eighths-most, stride-most, blocks-most}
+use Rattle.frame.proofs.extent.Sizing.{Fits, fits, eighths-most, stride-most, blocks-most}
 use Rattle.frame.proofs.Records.{setup-passes, frame-sizes}
 use Rattle.ground.specs.Tab.{tab}
 use Rattle.rows.proofs.Tabled.{sides}
@@ -108,8 +108,8 @@ record Narrow (s : Sizes) : Type 0 where
   ih4 : s .ih4 .0 < 2 ^ 32
   iw8 : s .iw8 .0 < 2 ^ 32
   ih8 : s .ih8 .0 < 2 ^ 32
-  sbsz : s .sbsz < 2 ^ 32
-  stride : s .stride < 2 ^ 32
+  sbsz : s .sbsz .0 < 2 ^ 32
+  stride : s .stride .0 < 2 ^ 32
   rows : s .«tile_rows» < 2 ^ 32
   blocks : s .«n_blocks» < 2 ^ 32
   tiles : s .«n_tile_threads» < 2 ^ 32
@@ -171,8 +171,8 @@ module _ (f : Frame) (h : Holdable f) where
         ih4 = record { 0 = four-whole (s .ih4 .0) (n .ih4) k };
         iw8 = record { 0 = four-whole (s .iw8 .0) (n .iw8) k };
         ih8 = record { 0 = four-whole (s .ih8 .0) (n .ih8) k };
-        sbsz = four-whole (s .sbsz) (n .sbsz) k;
-        stride = four-whole (s .stride) (n .stride) k;
+        sbsz = record { 0 = four-whole (s .sbsz .0) (n .sbsz) k };
+        stride = record { 0 = four-whole (s .stride .0) (n .stride) k };
         «tile_rows» = four-whole (s .«tile_rows») (n .rows) k;
         «n_blocks» = four-whole (s .«n_blocks») (n .blocks) k;
         «n_tile_threads» = four-whole (s .«n_tile_threads») (n .tiles) k;
@@ -229,7 +229,7 @@ narrow s f =
       ih4 = omega (arith, f .ih4);
       iw8 = omega (arith, f .iw8);
       ih8 = omega (arith, f .ih8);
-      sbsz = side (sides (s .sbsz) (f .superblock));
+      sbsz = side (sides (s .sbsz .0) (f .superblock));
       stride = omega (arith, f .stride);
       rows = omega (arith, f .limits .rows .fits);
       blocks = omega (arith, f .blocks);
@@ -237,7 +237,7 @@ narrow s f =
       frames = omega (arith, f .limits .frames .fits);
     }
   where
-    side : (s .sbsz ≡ 16) ⊎ (s .sbsz ≡ 32) → s .sbsz < 2 ^ 32
+    side : (s .sbsz .0 ≡ 16) ⊎ (s .sbsz .0 ≡ 32) → s .sbsz .0 < 2 ^ 32
     side (inl e) = omega arith
     side (inr e) = omega arith
 

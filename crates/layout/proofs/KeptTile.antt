@@ -15,17 +15,16 @@ use Rattle.ground.proofs.Picks.{pick-true, and-last}
 use Rattle.ground.proofs.Littles.{four-whole}
 use Rattle.cells.specs.declared.pos.Pos4.{Pos4}
 use Rattle.frame.specs.declared.record.Frame.{Frame}
-use Rattle.extent.specs.Sizes.{records, wellSizes}
-use Rattle.extent.proofs.Sizing.{fits, part-fits, eighths-most, blocks-most, records-most}
+use Rattle.frame.specs.extent.Sizes.{records, wellSizes}
+use Rattle.frame.proofs.extent.Sizing.{fits, part-fits, eighths-most, blocks-most, records-most}
 use Rattle.frame.proofs.Records.{frame-sizes}
 use Rattle.rows.specs.declared.table.Place.{Place}
 use Rattle.rows.specs.declared.table.Place.the-variants.{Absent, At}
-use Rattle.rows.specs.declared.setup.TileRange.{TileRange}
-use Rattle.rows.specs.declared.setup.Tile.{Tile}
+use Rattle.rows.specs.declared.setup.SbRow.{SbRow}
 use Rattle.ground.specs.Tab.{tab}
 use Rattle.rows.specs.Table.{none, tableOf, placeAt}
-use Rattle.rows.specs.Setup.{tableFor, cutTo, tileOf, inFrame, rowsAnswer}
-use Rattle.splats.specs.Splat.{holds}
+use Rattle.rows.specs.Setup.{tableFor, cutTo, Tile, tileOf, inFrame, rowsAnswer}
+use Rattle.rows.specs.splats.Splat.{holds}
 use Rattle.ground.proofs.Tabs.{tab-at}
 use Rattle.rows.proofs.Parts.{in-frame, rows-accepted}
 use Rattle.rows.proofs.Apart.{row-listed}
@@ -107,25 +106,25 @@ unfolding Unmarked
 by-place Absent h = tt
 by-place (At o) h = h o refl
 
-module _ (f : Frame) (col row : TileRange) (sby tile pass : ℕ) (z : rowsAnswer f col row tile pass ≡ 0) where
+module _ (f : Frame) (r : SbRow) (z : rowsAnswer f r ≡ 0) where
   well : wellSizes (f .sizes) ≡ true
-  well = frame-sizes f (rows-accepted f col row tile pass z .0)
+  well = frame-sizes f (rows-accepted f r z .0)
 
-  inside : inFrame (f .sizes) tile ≡ true
-  inside = rows-accepted f col row tile pass z .1
+  inside : inFrame (f .sizes) (r .tile) ≡ true
+  inside = rows-accepted f r z .1
 
-  entry-small : (e o : ℕ) → e < 37 → getD (tableFor (f .sizes) sby tile pass) e none .at ≡ At o → o < absentMark
+  entry-small : (e o : ℕ) → e < 37 → getD (tableFor (f .sizes) (r .sby) (r .tile) (r .pass)) e none .at ≡ At o → o < absentMark
   unfolding placeAt records
   entry-small e o h k =
       let there = pick-true Absent (lt-ltb e 37 h) ∙ k in
       let most = records-most (f .sizes) (fits (f .sizes) well) in
-      omega (arith, row-listed (f .sizes) well sby tile pass e o inside there)
+      omega (arith, row-listed (f .sizes) well (r .sby) (r .tile) (r .pass) e o inside there)
 
-  table-long : length (tableFor (f .sizes) sby tile pass) ≡ 37
+  table-long : length (tableFor (f .sizes) (r .sby) (r .tile) (r .pass)) ≡ 37
   unfolding tableFor tableOf
   table-long = tab-length _ 0 37
 
-  pub holdable : col .start .0 < 2 ^ 32 → row .start .0 < 2 ^ 32 → Holdable (tileOf f col row sby tile pass)
+  pub holdable : r .col .start .0 < 2 ^ 32 → r .row .start .0 < 2 ^ 32 → Holdable (tileOf f r)
   unfolding tileOf cutTo
   holdable a b =
       let s = f .sizes in
@@ -133,10 +132,10 @@ module _ (f : Frame) (col row : TileRange) (sby tile pass : ℕ) (z : rowsAnswer
       let wide = eighths-most (s .width) (k .limits .width .fits) in
       let high = eighths-most (s .height) (k .limits .height .fits) in
       let blocks = blocks-most (s .width) (s .«tile_rows») (s .«n_tile_threads») (k .limits .width .fits) (k .limits .rows) in
-      let part = part-fits s tile k (in-frame s tile inside) in
+      let part = part-fits s (r .tile) k (in-frame s (r .tile) inside) in
       record {
         table = table-long;
-        rows = λ e h. by-place (getD (tableFor s sby tile pass) e none .at) (λ o p. entry-small e o h p);
+        rows = λ e h. by-place (getD (tableFor s (r .sby) (r .tile) (r .pass)) e none .at) (λ o p. entry-small e o h p);
         proj = omega (arith, k .blocks);
         left = a;
         right = omega (arith, k .iw4);

@@ -1,13 +1,15 @@
 -- A frame's description out of lent bytes. A capture file has it in 67 (document 01, "Capture file"), the low byte of a number first: width and height of two
--- bytes; sb128, hint bits and current hint of one; seven hints; seven by seven hints by reference; tile rows, tile threads, frame threads and temporal flag of one.
+-- bytes; sb128, hint bits and current hint of one; seven hints; seven by seven hints by reference; tile rows, tile threads, frame threads and temporal flag
+-- of one.
 use Prim.Native.Nat.{ℕ}
 use mathlib.Core.List.{List}
 use lib.ListN.{getD, take, drop}
 use Rattle.ground.specs.Little.{twoAt}
-use Rattle.hints.specs.declared.description.Description.{Description}
+use Rattle.frame.specs.declared.hints.description.Description.{Description}
 
 -- the description whose hints are the first 7 and the first 49 bytes of what is lent
-unfoldable pub described : (width height sb128 hintBits currentHint : ℕ) (hints hintsByRef : List ℕ) (tileRows tileThreads frameThreads temporal : ℕ) → Description
+unfoldable pub described : (width height sb128 hintBits currentHint : ℕ) (hints hintsByRef : List ℕ)
+    (tileRows tileThreads frameThreads temporal : ℕ) → Description
 described width height sb128 hintBits currentHint hints hintsByRef tileRows tileThreads frameThreads temporal =
     record {
       width = width;

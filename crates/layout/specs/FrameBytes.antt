@@ -8,8 +8,8 @@ use Rattle.ground.specs.Pick.{pick}
 use Rattle.ground.specs.Sign.{eqZ}
 use Rattle.ground.specs.Twos.{halfAt, halfOf}
 use Rattle.ground.specs.Little.{fourAt, fours}
-use Rattle.extent.specs.declared.sizes.Sizes.{Sizes}
-use Rattle.hints.specs.declared.distances.RefHint.{RefHint}
+use Rattle.frame.specs.declared.extent.sizes.Sizes.{Sizes}
+use Rattle.frame.specs.declared.hints.distances.RefHint.{RefHint}
 use Rattle.frame.specs.declared.mfmv.Mfmv.{Mfmv}
 use Rattle.frame.specs.declared.mfmv.Ref2Cur.{Ref2Cur}
 use Rattle.frame.specs.declared.mfmv.Ref2Cur.the-variants.{Skipped, At}
@@ -27,8 +27,8 @@ sizesAt l =
       ih4 = record { 0 = fourAt l 12 };
       iw8 = record { 0 = fourAt l 16 };
       ih8 = record { 0 = fourAt l 20 };
-      sbsz = fourAt l 24;
-      stride = fourAt l 28;
+      sbsz = record { 0 = fourAt l 24 };
+      stride = record { 0 = fourAt l 28 };
       «tile_rows» = fourAt l 32;
       «n_blocks» = fourAt l 36;
       «n_tile_threads» = fourAt l 40;
@@ -72,7 +72,7 @@ frameAt l =
 -- The bytes that hold a record: the low ones of each number, which are all where setup made it (proofs/Kept).
 unfoldable pub sizeNumbers : Sizes → List ℕ
 sizeNumbers s =
-    s .width ∷ s .height ∷ s .iw4 .0 ∷ s .ih4 .0 ∷ s .iw8 .0 ∷ s .ih8 .0 ∷ s .sbsz ∷ s .stride
+    s .width ∷ s .height ∷ s .iw4 .0 ∷ s .ih4 .0 ∷ s .iw8 .0 ∷ s .ih8 .0 ∷ s .sbsz .0 ∷ s .stride .0
     ∷ s .«tile_rows» ∷ s .«n_blocks» ∷ s .«n_tile_threads» ∷ s .«n_frame_threads» ∷ []
 
 unfoldable pub hintBytes : RefHint → List ℕ

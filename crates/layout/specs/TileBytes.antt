@@ -5,14 +5,14 @@ use mathlib.Core.List.{List, [], _∷_, _++_}
 use lib.Dec.{eqb}
 use lib.ListN.{getD}
 use Rattle.ground.specs.Pick.{pick}
-use Rattle.ground.specs.Little.{fourAt, fours}
+use Rattle.ground.specs.Little.{fourAt, fourBytes, fours}
 use Rattle.rows.specs.declared.table.Place.{Place}
 use Rattle.rows.specs.declared.table.Place.the-variants.{Absent, At}
 use Rattle.rows.specs.declared.table.RowEntry.{RowEntry}
 use Rattle.rows.specs.declared.setup.TileRange.{TileRange}
-use Rattle.rows.specs.declared.setup.Tile.{Tile}
 use Rattle.ground.specs.Tab.{tab}
 use Rattle.rows.specs.Table.{none}
+use Rattle.rows.specs.Setup.{Tile}
 
 -- the largest number of four bytes stands for an absent row
 abbrev pub absentMark : ℕ
@@ -36,6 +36,9 @@ unfoldable pub tileAt : List ℕ → Tile
 tileAt l = record { rows = tab (entryIn l) 0 37; proj = fourAt l 148; col = rangeAt l 152 156; row = rangeAt l 160 164 }
 
 -- The bytes that hold a tile. A start past four bytes becomes the largest number of four: no block lies behind either.
+abbrev pub entryBytes : RowEntry → List ℕ
+entryBytes r = fourBytes (placeNumber (r .at))
+
 unfoldable pub entryNumber : List RowEntry → ℕ → ℕ
 entryNumber rows e = placeNumber (getD rows e none .at)
 

@@ -2,9 +2,9 @@
 // first.
 use crate::start::forty_nine;
 use crate::start::seven;
+use frame::hints::description::Description;
 use ground::read::one_at;
 use ground::read::two_at;
-use hints::description::Description;
 ghost use mathlib.Core.Path.{_≡_};
 ghost use Prim.Native.Nat.{_≤_};
 ghost use lib.ListN.{length};

@@ -2,7 +2,13 @@
 // of one, seven hints of four bytes, three selected references of ten.
 use cells::pos::Pos4;
 use cells::pos::Pos8;
-use extent::sizes::Sizes;
+use frame::extent::sizes::Sizes;
+use frame::hints::description::Description;
+use frame::hints::distances::RefHint;
+use frame::hints::distances::flag;
+use frame::hints::distances::ref_hints;
+use frame::hints::select::Selection;
+use frame::hints::select::select;
 use frame::mfmv::Mfmv;
 use frame::mfmv::Ref2Cur;
 use frame::mfmv::slot;
@@ -13,27 +19,21 @@ use ground::twos::read_half;
 use ground::twos::write_half;
 use ground::write::put_bytes;
 use ground::write::put_sizes;
-use hints::description::Description;
-use hints::distances::RefHint;
-use hints::distances::flag;
-use hints::distances::ref_hints;
-use hints::select::Selection;
-use hints::select::select;
 ghost use mathlib.Core.Path.{_≡_};
 ghost use mathlib.Core.Bool.{true};
 ghost use mathlib.Core.List.{_∷_, []};
-ghost use Prim.Native.Nat.{_+_, _≤_, _<_, _%_};
+ghost use Prim.Native.Nat.{ℕ, _+_, _*_, _≤_, _<_, _%_};
 ghost use lib.Dec.{ltb};
 ghost use lib.ListN.{length, getD};
-ghost use Rattle.ground.specs.Pick.{pick};
 ghost use Rattle.ground.specs.Put.{put};
 ghost use Rattle.ground.specs.Below.{allBelow};
 ghost use Rattle.ground.specs.Little.{fours};
-ghost use Rattle.hints.specs.Description.{hinted, setupAnswer, ofHints};
-ghost use Rattle.hints.specs.Distances.{flagOf, wellHint};
-ghost use Rattle.frame.specs.Mfmv.{mfmvOf, idle, slotIn, noMfmv, wellMfmv};
+ghost use Rattle.frame.specs.hints.Description.{hinted, setupAnswer};
+ghost use Rattle.frame.specs.hints.Distances.{flagOf, wellHint};
+ghost use Rattle.frame.specs.Mfmv.{slotIn, noMfmv, wellMfmv};
 ghost use Rattle.frame.specs.Record.{frameOf, noHint, wellFrame};
-ghost use Rattle.layout.specs.FrameBytes.{sizesAt, refHintAt, refHintsAt, curOf, offsetsAt, mfmvAt, frameAt, hintBytes, hintsBytes, curNumber, mfmvBytes, mfmvsBytes, sizeNumbers, frameBytes};
+ghost use Rattle.layout.specs.FrameBytes.{sizesAt, refHintAt, refHintsAt, curOf, offsetsAt, mfmvAt, frameAt};
+ghost use Rattle.layout.specs.FrameBytes.{hintBytes, hintsBytes, curNumber, mfmvBytes, mfmvsBytes, sizeNumbers, frameBytes};
 
 pub const FRAME: usize = 109;
 
@@ -51,13 +51,36 @@ pub fn sizes_at(s: &[u8]) -> Sizes
         ih4: Pos4(size_at(s, 12)),
         iw8: Pos8(size_at(s, 16)),
         ih8: Pos8(size_at(s, 20)),
-        sbsz: size_at(s, 24),
-        stride: size_at(s, 28),
+        sbsz: Pos4(size_at(s, 24)),
+        stride: Pos8(size_at(s, 28)),
         tile_rows: size_at(s, 32),
         n_blocks: size_at(s, 36),
         n_tile_threads: size_at(s, 40),
         n_frame_threads: size_at(s, 44),
     }
+}
+
+fn flag_at(s: &[u8], at: usize) -> u8
+    requires { ⌜ at < length (now s) ⌝ }
+    ensures { λ r. ⌜ r ≡ getD (now (s .entry)) at 0 ⌝ }
+{
+    s[at]
+}
+
+// 1 where temporal search is in use, which is where a reference was selected.
+pub fn use_ref_frame_mvs_in(s: &[u8]) -> u8
+    requires { ⌜ 109 ≤ length (now s) ⌝ }
+    ensures { λ r. ⌜ r ≡ frameAt (now (s .entry)) .«use_ref_frame_mvs» ⌝ }
+{
+    flag_at(s, 48)
+}
+
+// The header's flag of temporal search.
+pub fn temporal_in(s: &[u8]) -> u8
+    requires { ⌜ 109 ≤ length (now s) ⌝ }
+    ensures { λ r. ⌜ r ≡ frameAt (now (s .entry)) .temporal ⌝ }
+{
+    flag_at(s, 49)
 }
 
 fn hint_at(s: &[u8], at: usize) -> RefHint
@@ -250,35 +273,25 @@ fn put_mfmv(s: &mut [u8], at: usize, m: Mfmv)
     put_bytes(s, at + 3, &offsets);
 }
 
-// A place of the selected references. What is made is written at once: where it is handed on, its
-// bytes are stored one by one and loaded in words, and the load waits for the stores.
-fn put_slot(
-    s: &mut [u8],
-    at: usize,
-    bits: u32,
-    current: u32,
-    hints: &[u8],
-    held: &[u8],
-    taken: bool,
-    reference: u8,
-)
-    requires { ⌜ (at + 10 ≤ length (now s)) × (hinted (ofHints bits current (now hints) (now held)) ≡ true) × (length (now hints) ≡ 7) × (length (now held) ≡ 49) × (reference < 7) ⌝ }
-    ensures { λ _. ⌜ now (s .exit) ≡ put (now (s .entry)) at (mfmvBytes (pick taken (mfmvOf (ofHints bits current (now (hints .entry)) (now (held .entry))) reference) idle)) ⌝ }
+// Place i of the selected references. What is made is written at once: where it is handed on, its
+// bytes are stored one by one and loaded in words, and the load waits for the stores. hints and held
+// are d's, lent.
+fn put_slot(s: &mut [u8], d: Description, hints: &[u8], held: &[u8], c: Selection, i: usize)
+    requires { ⌜ (109 ≤ length (now s)) × (now hints ≡ d .hints) × (now held ≡ d .«hints_by_ref») × (hinted d ≡ true) ⌝ }
+    requires { ⌜ (i < 3) × (getD (c .refs) i 0 < 7) ⌝ }
+    ensures { λ _. ⌜ now (s .exit) ≡ put (now (s .entry)) (79 + 10 * i) (mfmvBytes (slotIn d c i)) ⌝ }
 {
-    put_mfmv(s, at, slot(bits, current, hints, held, taken, reference));
+    put_mfmv(s, 79 + 10 * i, slot(d, hints, held, c, i));
 }
 
 fn put_slots(s: &mut [u8], d: Description, hints: &[u8], held: &[u8], c: Selection)
-    requires { ⌜ (109 ≤ length (now s)) × (hinted d ≡ true) × (now hints ≡ d .hints) × (now held ≡ d .«hints_by_ref») × (getD (c .refs) 0 0 < 7) × (getD (c .refs) 1 0 < 7) × (getD (c .refs) 2 0 < 7) ⌝ }
+    requires { ⌜ (109 ≤ length (now s)) × (now hints ≡ d .hints) × (now held ≡ d .«hints_by_ref») × (hinted d ≡ true) ⌝ }
+    requires { ⌜ ((i : ℕ) → i < 3 → getD (c .refs) i 0 < 7) ⌝ }
     ensures { λ _. ⌜ now (s .exit) ≡ put (now (s .entry)) 79 (mfmvsBytes (slotIn d c 0 ∷ slotIn d c 1 ∷ slotIn d c 2 ∷ [])) ⌝ }
 {
-    let bits = d.hint_bits;
-    let current = d.current_hint;
-    let n = c.n;
-    let refs = c.refs;
-    put_slot(s, 79, bits, current, hints, held, 0 < n, refs[0]);
-    put_slot(s, 89, bits, current, hints, held, 1 < n, refs[1]);
-    put_slot(s, 99, bits, current, hints, held, 2 < n, refs[2]);
+    put_slot(s, d, hints, held, c, 0);
+    put_slot(s, d, hints, held, c, 1);
+    put_slot(s, d, hints, held, c, 2);
 }
 
 fn put_numbers(s: &mut [u8], z: Sizes)
@@ -292,8 +305,8 @@ fn put_numbers(s: &mut [u8], z: Sizes)
         z.ih4.0,
         z.iw8.0,
         z.ih8.0,
-        z.sbsz,
-        z.stride,
+        z.sbsz.0,
+        z.stride.0,
         z.tile_rows,
         z.n_blocks,
         z.n_tile_threads,

@@ -2,13 +2,16 @@
 // the start of its part of the projection, column start and end, row start and end.
 use crate::frame_bytes::sizes_at;
 use cells::pos::Pos4;
+use ground::bound::least;
 use ground::read::size_at;
 use ground::write::put_size;
 use ground::write::put_sizes;
+use rows::setup::SbRow;
 use rows::setup::TileRange;
 use rows::setup::part_start;
 use rows::setup::proj_start;
 use rows::table::Place;
+use rows::table::RowEntry;
 use rows::table::offset;
 ghost use mathlib.Core.Path.{_≡_};
 ghost use mathlib.Core.Bool.{true};
@@ -17,12 +20,12 @@ ghost use Prim.Native.Nat.{_+_, _*_, _≤_, _<_, _^_, min};
 ghost use lib.ListN.{length};
 ghost use Rattle.ground.specs.Put.{put, copies};
 ghost use Rattle.ground.specs.Little.{fourBytes, fours};
-ghost use Rattle.extent.specs.Sizes.{superblock};
+ghost use Rattle.frame.specs.extent.Sizes.{superblock};
 ghost use Rattle.ground.specs.Tab.{tab};
-ghost use Rattle.rows.specs.Table.{tableOf, placeAt};
+ghost use Rattle.rows.specs.Table.{none, tableOf, placeAt};
 ghost use Rattle.rows.specs.Setup.{tileOf, rowsAnswer};
 ghost use Rattle.layout.specs.FrameBytes.{frameAt};
-ghost use Rattle.layout.specs.TileBytes.{absentMark, placeOf, rangeAt, tileAt, entryNumber, tileBytes};
+ghost use Rattle.layout.specs.TileBytes.{absentMark, placeOf, placeNumber, entryIn, rangeAt, tileAt, entryBytes, entryNumber, tileBytes};
 
 pub const TILE: usize = 168;
 
@@ -38,15 +41,24 @@ fn place_of(n: usize) -> Place
     Place::At(n)
 }
 
-// An entry's place; past the table there is none.
-pub fn place_in(s: &[u8], e: usize) -> Place
+// One of the 37 entries.
+fn entry_at(s: &[u8], e: usize) -> RowEntry
+    requires { ⌜ 4 * e + 4 ≤ length (now s) ⌝ }
+    ensures { λ r. ⌜ r ≡ entryIn (now (s .entry)) e ⌝ }
+{
+    let at = place_of(size_at(s, 4 * e));
+    RowEntry { at }
+}
+
+// An entry of the table; past it there is no row.
+pub fn entry_in(s: &[u8], e: usize) -> RowEntry
     requires { ⌜ 168 ≤ length (now s) ⌝ }
-    ensures { λ r. ⌜ r ≡ placeAt (tileAt (now (s .entry)) .rows) e ⌝ }
+    ensures { λ r. ⌜ r .at ≡ placeAt (tileAt (now (s .entry)) .rows) e ⌝ }
 {
     if e < 37 {
-        return place_of(size_at(s, 4 * e));
+        return entry_at(s, e);
     }
-    Place::Absent
+    RowEntry { at: Place::Absent }
 }
 
 // The first cell of the tile row's part of the projection.
@@ -81,15 +93,32 @@ pub fn rows_at(s: &[u8]) -> TileRange
     range_at(s, 160, 164)
 }
 
+fn number_of(p: Place) -> usize
+    ensures { λ r. ⌜ r ≡ placeNumber p ⌝ }
+{
+    match p {
+        Place::Absent => ABSENT,
+        Place::At(o) => o,
+    }
+}
+
+fn put_entry(s: &mut [u8], e: usize, entry: RowEntry)
+    requires { ⌜ 4 * e + 4 ≤ length (now s) ⌝ }
+    ensures { λ _. ⌜ now (s .exit) ≡ put (now (s .entry)) (4 * e) (entryBytes entry) ⌝ }
+{
+    let at = entry.at;
+    put_size(s, 4 * e, number_of(at));
+}
+
 // No row, in each of the 37 entries.
 fn put_absent(s: &mut [u8])
     requires { ⌜ 148 ≤ length (now s) ⌝ }
-    ensures { λ _. ⌜ now (s .exit) ≡ put (now (s .entry)) 0 (copies 148 (255 ∷ [])) ⌝ }
+    ensures { λ _. ⌜ now (s .exit) ≡ put (now (s .entry)) 0 (copies 37 (entryBytes none)) ⌝ }
 {
-    let mut i: usize = 0;
-    while i < 148 {
-        s[i] = 255;
-        i += 1;
+    let mut e: usize = 0;
+    while e < 37 {
+        put_entry(s, e, RowEntry { at: Place::Absent });
+        e += 1;
     }
 }
 
@@ -101,7 +130,7 @@ fn put_rows(s: &mut [u8], at: usize, n: usize, first: usize, stride: usize)
     let mut r = first;
     let mut i: usize = 0;
     while i < n {
-        put_size(s, 4 * (at + i), r);
+        put_entry(s, at + i, RowEntry { at: Place::At(r) });
         r += stride;
         i += 1;
     }
@@ -110,16 +139,31 @@ fn put_rows(s: &mut [u8], at: usize, n: usize, first: usize, stride: usize)
 // Three entries, every other one from at on, for rows that lie one step apart.
 fn put_three(s: &mut [u8], at: usize, r: usize, step: usize)
     requires { ⌜ (4 * at + 20 ≤ length (now s)) × (r + 2 * step < 2 ^ 64) ⌝ }
-    ensures { λ _. ⌜ now (s .exit) ≡ put (put (put (now (s .entry)) (4 * at) (fourBytes r)) (4 * (at + 2)) (fourBytes (r + step))) (4 * (at + 4)) (fourBytes (r + 2 * step)) ⌝ }
+    ensures { λ _. ⌜ now (s .exit) ≡
+        put (put (put (now (s .entry)) (4 * at) (fourBytes r)) (4 * (at + 2)) (fourBytes (r + step))) (4 * (at + 4)) (fourBytes (r + 2 * step)) ⌝ }
 {
-    put_size(s, 4 * at, r);
-    put_size(s, 4 * (at + 2), r + step);
-    put_size(s, 4 * (at + 4), r + 2 * step);
+    let second = r + step;
+    let third = r + 2 * step;
+    put_entry(s, at, RowEntry { at: Place::At(r) });
+    put_entry(
+        s,
+        at + 2,
+        RowEntry {
+            at: Place::At(second),
+        },
+    );
+    put_entry(
+        s,
+        at + 4,
+        RowEntry {
+            at: Place::At(third),
+        },
+    );
 }
 
-// The table of `rows::table::table_of`, written where it is to stand, and in parts: a rule that is
-// asked for each entry takes three times as long. On an odd row the rows above have changed places
-// with the last rows of the superblock row.
+// The table, written where it is to stand, and in parts: a rule that is asked for each entry takes
+// three times as long. On an odd row the rows above have changed places with the last rows of the
+// superblock row.
 fn put_table(s: &mut [u8], sbsz: usize, odd: bool, first: usize, stride: usize)
     requires { ⌜ (168 ≤ length (now s)) × (superblock sbsz ≡ true) × (first + sbsz * stride + 2 * stride < 2 ^ 64) ⌝ }
     ensures { λ _. ⌜ now (s .exit) ≡ put (now (s .entry)) 0 (fours (tab (entryNumber (tableOf sbsz odd first stride)) 0 37)) ⌝ }
@@ -137,47 +181,39 @@ fn put_table(s: &mut [u8], sbsz: usize, odd: bool, first: usize, stride: usize)
 }
 
 // A start past four bytes becomes the largest number of four: no block lies behind either.
-fn held(n: usize) -> usize
-    ensures { λ r. ⌜ r ≡ min n absentMark ⌝ }
-{
-    if n < ABSENT { n } else { ABSENT }
-}
-
 fn put_bounds(s: &mut [u8], proj: usize, col: TileRange, row: TileRange)
     requires { ⌜ 168 ≤ length (now s) ⌝ }
-    ensures { λ _. ⌜ now (s .exit) ≡ put (now (s .entry)) 148 (fours (proj ∷ min (col .start .0) absentMark ∷ col .end .0 ∷ min (row .start .0) absentMark ∷ row .end .0 ∷ [])) ⌝ }
+    ensures { λ _. ⌜ now (s .exit) ≡ put (now (s .entry)) 148
+        (fours (proj ∷ min (col .start .0) absentMark ∷ col .end .0 ∷ min (row .start .0) absentMark ∷ row .end .0 ∷ [])) ⌝ }
 {
     let numbers = [
         proj,
-        held(col.start.0),
+        least(col.start.0, ABSENT),
         col.end.0,
-        held(row.start.0),
+        least(row.start.0, ABSENT),
         row.end.0,
     ];
     put_sizes(s, 148, &numbers);
 }
 
-// The tile of `rows::setup::tile_of` over the start of s, for a frame record where it stands. No
-// table is made elsewhere and copied.
-pub fn put_tile(
-    s: &mut [u8],
-    frame: &[u8],
-    col: TileRange,
-    row: TileRange,
-    sby: usize,
-    tile: usize,
-    pass: usize,
-)
-    requires { ⌜ (168 ≤ length (now s)) × (109 ≤ length (now frame)) × (rowsAnswer (frameAt (now frame)) col row tile pass ≡ 0) ⌝ }
-    ensures { λ _. ⌜ now (s .exit) ≡ put (now (s .entry)) 0 (tileBytes (tileOf (frameAt (now (frame .entry))) col row sby tile pass)) ⌝ }
+// The tile of a superblock row over the start of s, for a frame record where it stands. No table is
+// made elsewhere and copied.
+pub fn put_tile(s: &mut [u8], frame: &[u8], r: SbRow)
+    requires { ⌜ (168 ≤ length (now s)) × (109 ≤ length (now frame)) × (rowsAnswer (frameAt (now frame)) r ≡ 0) ⌝ }
+    ensures { λ _. ⌜ now (s .exit) ≡ put (now (s .entry)) 0 (tileBytes (tileOf (frameAt (now (frame .entry))) r)) ⌝ }
 {
     let z = sizes_at(frame);
     put_table(
         s,
-        z.sbsz,
-        sby % 2 == 1,
-        part_start(z, tile, pass),
-        2 * z.stride,
+        z.sbsz.0,
+        r.sby % 2 == 1,
+        part_start(z, r.tile, r.pass),
+        z.stride.doubled().0,
     );
-    put_bounds(s, proj_start(z, tile), col.cut_to(z.iw4), row.cut_to(z.ih4));
+    put_bounds(
+        s,
+        proj_start(z, r.tile),
+        r.col.cut_to(z.iw4),
+        r.row.cut_to(z.ih4),
+    );
 }

@@ -1,4 +1,2 @@
-// What the programs share that replay the Rust's answers: cases from standard input, and lines of
-// words and decimal numbers.
-pub mod input;
+// What programs share that print text: lines of words and decimal numbers.
 pub mod print;

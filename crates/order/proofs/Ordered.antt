@@ -1,7 +1,8 @@
--- DEMAND 3, proved: `any-order`, `all-finished`, `no-matter` (specs/Demand has their words). The desk is seen as a state of the plan (proofs/Planned), and each of
--- its steps as the plan's.
+-- Demand 3, proved: `any-order`, `all-finished`, `no-matter` (specs/Demand has their words). The desk is seen as a state of the plan (proofs/Planned),
+-- and each of its steps as the plan's.
 -- Assumes nothing.
-use mathlib.Core.Path.{_≡_, refl, sym, ap, ap₂, _∙_, subst}
+use mathlib.Core.Path.{_≡_, refl, sym, ap, ap₂, _∙_, subst, fun-ext}
+use mathlib.Core.Logic.{_⊎_}
 use mathlib.Core.Bool.{Bool, true, false}
 use mathlib.Core.List.{List, [], _∷_}
 use Prim.Native.Nat.{ℕ, zero, suc, _+_, _≤_, _<_}
@@ -20,60 +21,66 @@ use Rattle.ground.proofs.Picks.{pick-true, pick-false}
 use Rattle.ground.proofs.Spans as spans
 use Rattle.ground.proofs.Windows.{bump-same, bump-other, kind-moved, kind-finished, kind-nojob, after-fresh, after-step}
 use Rattle.ground.proofs.Orders as orders
-use Rattle.saving.specs.Save.{saveScript}
-use Rattle.loading.specs.Load.{loadScript}
-use Rattle.job.specs.declared.record.Job.{Job}
-use Rattle.job.specs.Job.{noJob, jobAt, isLoad, countOf}
-use Rattle.work.specs.Work.{onProj, onSaved}
+use Rattle.jobs.specs.declared.job.record.Job.{Job}
+use Rattle.jobs.specs.job.Job.{noJob, jobAt, isLoad, countOf}
 use Rattle.jobs.specs.Admit.{Handed, handed}
 use Rattle.jobs.specs.Step.{doneNumber, stepNumber}
-use Rattle.turns.specs.Turn.{withDone, names}
-use Rattle.order.specs.Desk.{Given, Desk, handedBy, answerTo, turn, plays}
-use Rattle.order.specs.Demand.{Admitted, firstRows, doneBy, AnyOrder, Finishes, Whole, wholeLoad, wholeSave, allLoads, allSaves}
+use Rattle.order.specs.steps.Turn.{withDone, names}
+use Rattle.order.specs.Desk.{Given, Desk, Buffers, buffers, handedBy, answerTo, turn, plays}
+use Rattle.order.specs.Demand.{Admitted, InWindow, onBuffer, firstRows, doneBy, AnyOrder, Finishes, Whole, wholeScript, allWhole}
 use Rattle.order.proofs.Admission.{Fit, Accepted, accepted}
-use Rattle.order.proofs.Planned.{Buffers, Byte, inProj, inSaved, valueAt, Holds, script, worked, lent, planOf, free}
+use Rattle.order.proofs.Planned.{script, worked, planOf, free}
 use Rattle.order.proofs.Turns as turns
 use Rattle.order.proofs.Wholes.{load-whole, save-whole}
 
--- ---- rows of work, one after the other
+-- ---- rows of work, one after the other, as far as they are laid over one buffer: a job lays all it lays there, or nothing
 
-ran-proj : (b : Bool) (f : ℕ → List Patch) (k : ℕ) (l : List ℕ)
-    → run (pick b (f k) []) (run (pick b (span f 0 k) []) l) ≡ run (pick b (span f 0 (suc k)) []) l
+all-or-none : (b : ℕ) (j : Job) → ((ps : List Patch) → onBuffer b j ps ≡ ps) ⊎ ((ps : List Patch) → onBuffer b j ps ≡ [])
+all-or-none zero j = by (isLoad j)
+  where
+    by : (x : Bool) → ((ps : List Patch) → pick x ps [] ≡ ps) ⊎ ((ps : List Patch) → pick x ps [] ≡ [])
+    by true = _⊎_.inl (λ ps. refl)
+    by false = _⊎_.inr (λ ps. refl)
+all-or-none (suc zero) j = by (isLoad j)
+  where
+    by : (x : Bool) → ((ps : List Patch) → pick x [] ps ≡ ps) ⊎ ((ps : List Patch) → pick x [] ps ≡ [])
+    by true = _⊎_.inr (λ ps. refl)
+    by false = _⊎_.inl (λ ps. refl)
+all-or-none (suc (suc b)) j = _⊎_.inr (λ ps. refl)
+
+module _ (b : ℕ) (j : Job) (f : ℕ → List Patch) (l : List ℕ) where
+  none-laid : l ≡ run (onBuffer b j (span f 0 0)) l
+  unfolding run
+  none-laid = by (all-or-none b j)
+    where
+      by : ((ps : List Patch) → onBuffer b j ps ≡ ps) ⊎ ((ps : List Patch) → onBuffer b j ps ≡ []) → l ≡ run (onBuffer b j (span f 0 0)) l
+      by (_⊎_.inl a) = rw (a (span f 0 0)) (spans.start f 0 l)
+      by (_⊎_.inr a) = rw (a (span f 0 0)) refl
+
+  one-more : (k : ℕ) → run (onBuffer b j (f k)) (run (onBuffer b j (span f 0 k)) l) ≡ run (onBuffer b j (span f 0 (suc k))) l
+  unfolding run
+  one-more k = by (all-or-none b j)
+    where
+      by : ((ps : List Patch) → onBuffer b j ps ≡ ps) ⊎ ((ps : List Patch) → onBuffer b j ps ≡ [])
+          → run (onBuffer b j (f k)) (run (onBuffer b j (span f 0 k)) l) ≡ run (onBuffer b j (span f 0 (suc k))) l
+      by (_⊎_.inl a) = rw (a (f k), a (span f 0 k), a (span f 0 (suc k))) (spans.more f 0 k (omega arith) l refl refl ∙ ap (λ (n : ℕ). run (span f 0 n) l) (add-one k))
+      by (_⊎_.inr a) = rw (a (f k), a (span f 0 k), a (span f 0 (suc k))) refl
+
+rows-are : (g : Given) (d : Desk) (j k : ℕ) (m : Buffers) (b : ℕ) → rows (planOf g d) j k m b ≡ run (onBuffer b (jobAt (d .batch) j) (firstRows g (jobAt (d .batch) j) k)) (m b)
+rows-are g d j zero m b = none-laid b (jobAt (d .batch) j) (script g (jobAt (d .batch) j)) (m b)
+rows-are g d j (suc k) m b =
+    ap (run (onBuffer b (jobAt (d .batch) j) (script g (jobAt (d .batch) j) k))) (rows-are g d j k m b)
+    ∙ one-more b (jobAt (d .batch) j) (script g (jobAt (d .batch) j)) (m b) k
+
+-- a row laid on the desk is a row laid over each of its buffers
+laid : (g : Given) (k : ℕ) (j : Job) (c : ℕ) (e : Desk) → buffers (turns.onward g k j c e) ≡ worked g j c (buffers e)
 unfolding run
-ran-proj true f k l = spans.more f 0 k (omega arith) l refl refl ∙ ap (λ (n : ℕ). run (span f 0 n) l) (add-one k)
-ran-proj false f k l = refl
-
-ran-saved : (b : Bool) (f : ℕ → List Patch) (k : ℕ) (l : List ℕ)
-    → run (pick b [] (f k)) (run (pick b [] (span f 0 k)) l) ≡ run (pick b [] (span f 0 (suc k))) l
-unfolding run
-ran-saved true f k l = refl
-ran-saved false f k l = spans.more f 0 k (omega arith) l refl refl ∙ ap (λ (n : ℕ). run (span f 0 n) l) (add-one k)
-
-none-proj : (b : Bool) (f : ℕ → List Patch) (l : List ℕ) → l ≡ run (pick b (span f 0 0) []) l
-unfolding run
-none-proj true f l = spans.start f 0 l
-none-proj false f l = refl
-
-none-saved : (b : Bool) (f : ℕ → List Patch) (l : List ℕ) → l ≡ run (pick b [] (span f 0 0)) l
-unfolding run
-none-saved true f l = refl
-none-saved false f l = spans.start f 0 l
-
--- what k rows of job j leave
-abbrev left-by : Given → Job → ℕ → Buffers → Buffers
-left-by g j k m = record { proj = run (onProj j (firstRows g j k)) (m .proj); saved = run (onSaved j (firstRows g j k)) (m .saved) }
-
-rows-are : (g : Given) (d : Desk) (j k : ℕ) (m : Buffers) → rows (planOf g d) j k m ≡ left-by g (jobAt (d .batch) j) k m
-rows-are g d j zero m = λ i. record {
-  proj = none-proj (isLoad (jobAt (d .batch) j)) (script g (jobAt (d .batch) j)) (m .proj) i;
-  saved = none-saved (isLoad (jobAt (d .batch) j)) (script g (jobAt (d .batch) j)) (m .saved) i;
-}
-rows-are g d j (suc k) m =
-    ap (worked g (jobAt (d .batch) j) k) (rows-are g d j k m)
-    ∙ (λ i. record {
-      proj = ran-proj (isLoad (jobAt (d .batch) j)) (script g (jobAt (d .batch) j)) k (m .proj) i;
-      saved = ran-saved (isLoad (jobAt (d .batch) j)) (script g (jobAt (d .batch) j)) k (m .saved) i;
-    })
+laid g k j c e = fun-ext by
+  where
+    by : (b : ℕ) → buffers (turns.onward g k j c e) b ≡ worked g j c (buffers e) b
+    by zero = refl
+    by (suc zero) = refl
+    by (suc (suc b)) = refl
 
 module _ (g : Given) (d : Desk) (adm : Admitted g d) where
   abbrev n : ℕ
@@ -90,13 +97,13 @@ module _ (g : Given) (d : Desk) (adm : Admitted g d) where
 
   -- a desk as a state of the plan
   record Seen (e : Desk) (s : St P) : Type 0 where
-    mem : lent e ≡ s .mem
+    mem : buffers e ≡ s .mem
     many : e .batch .n ≡ n
     places : length (e .batch .jobs) ≡ 8
     each : (j : ℕ) → j < n → jobAt (e .batch) j ≡ withDone (J j) (s .done j)
     others : (j : ℕ) → n ≤ j → jobAt (e .batch) j ≡ J j
 
-  start : Seen d (fresh P (lent d))
+  start : Seen d (fresh P (buffers d))
   start = record {
     mem = refl;
     many = refl;
@@ -106,13 +113,13 @@ module _ (g : Given) (d : Desk) (adm : Admitted g d) where
   }
 
   abbrev Ok : St P → Type 0
-  Ok s = After P (lent d) (λ _. lent d) s
+  Ok s = After P (buffers d) (λ _. buffers d) s
 
   -- what it is handed is what admission was handed
   handed-alike : (e : Desk) (s : St P) → Seen e s → Ok s → handedBy g e ≡ handedBy g d
   handed-alike e s v a =
-      ap₂ (handed (g .frame) (g .present) (g .fields) (g .recs)) (ap (λ (m : Buffers). length (m .proj)) (v .mem) ∙ a .ok .0)
-      (ap (λ (m : Buffers). length (m .saved)) (v .mem) ∙ a .ok .1)
+      ap₂ (handed (g .frame) (g .lent) (g .fields) (g .recs)) (ap (λ (m : Buffers). length (m 0)) (v .mem) ∙ a .ok 0)
+      (ap (λ (m : Buffers). length (m 1)) (v .mem) ∙ a .ok 1)
 
   module _ (e : Desk) (s : St P) (v : Seen e s) (a : Ok s) (k : ℕ) where
     named : k < n → names (e .batch) k ≡ true
@@ -145,7 +152,7 @@ module _ (g : Given) (d : Desk) (adm : Admitted g d) where
         -- one more row of job k
         after : k < n → Seen (turns.onward g k (J k) (s .done k) e) (act P moved k s)
         after h = record {
-          mem = ap (worked g (J k) (s .done k)) (v .mem);
+          mem = laid g k (J k) (s .done k) e ∙ ap (worked g (J k) (s .done k)) (v .mem);
           many = v .many;
           places = length-set (e .batch .jobs) k (withDone (J k) (s .done k + 1)) ∙ v .places;
           each = λ j l. job j l (ℕ-discrete j k);
@@ -182,51 +189,60 @@ module _ (g : Given) (d : Desk) (adm : Admitted g d) where
   seen-all (k ∷ ks) e s v a = seen-all ks (turn g k e) (step P k s) (seen-step e s v a k) (kept a)
     where
       kept : Ok s → Ok (step P k s)
-      kept a = after-step P (lent d) (λ _. lent d) (orders.laws P (lent d) (free g d ok)) k s a
+      kept a = after-step P (buffers d) (λ _. buffers d) (orders.laws P (buffers d) (free g d ok)) k s a
 
-  seen : (ks : List ℕ) → Seen (plays g ks d) (play P ks (fresh P (lent d))) × Ok (play P ks (fresh P (lent d)))
-  seen ks = seen-all ks d (fresh P (lent d)) start (after-fresh P (lent d) (λ _. lent d) (orders.laws P (lent d) (free g d ok)))
+  seen : (ks : List ℕ) → Seen (plays g ks d) (play P ks (fresh P (buffers d))) × Ok (play P ks (fresh P (buffers d)))
+  seen ks = seen-all ks d (fresh P (buffers d)) start (after-fresh P (buffers d) (λ _. buffers d) (orders.laws P (buffers d) (free g d ok)))
 
   -- THE THEOREM
   pub any-order : (ks : List ℕ) → AnyOrder g d ks (plays g ks d)
   any-order ks = record {
     record-of = λ j h. v .each j h ∙ ap (withDone (J j)) (t .count j h);
-    projected = λ j i h w. held (inProj i) j h w ∙ ap (λ (ps : List Patch). getD (run ps (d .proj)) i 0) (pick-true [] (w .0));
-    saved = λ j i h w. held (inSaved i) j h w ∙ ap (λ (ps : List Patch). getD (run ps (d .saved)) i 0) (pick-false [] (w .0));
-    rest-projected = λ i f. ap (λ (m : Buffers). valueAt m (inProj i)) (v .mem) ∙ t .rest (inProj i) (λ j h w. f j h (w .1));
-    rest-saved = λ i f. ap (λ (m : Buffers). valueAt m (inSaved i)) (v .mem) ∙ t .rest (inSaved i) (λ j h w. f j h (w .1));
-    lengths = (ap (λ (m : Buffers). length (m .proj)) (v .mem) ∙ t .ok .0, ap (λ (m : Buffers). length (m .saved)) (v .mem) ∙ t .ok .1);
+    many = v .many;
+    behind = v .others;
+    places = v .places ∙ sym (adm .places);
+    windows = λ j b i h w. held j b i h w ∙ ap (λ (ps : List Patch). getD (run ps (buffers d b)) i 0) (whole-laid (J j) b i (firstRows g (J j) (doneBy g d ks j)) w);
+    rest = λ b i f. ap (λ (m : Buffers). getD (m b) i 0) (v .mem) ∙ t .rest (b, i) (λ j h w. f j h (w .1));
+    lengths = λ b. ap (λ (m : Buffers). length (m b)) (v .mem) ∙ t .ok b;
     answers = λ k h. answer (plays g ks d) s v (seen ks .1) k h ∙ ap (λ (c : ℕ). pick (ltb c (countOf (g .frame) (J k))) 0 doneNumber) (t .count k h);
     no-job = λ k h. none (plays g ks d) s v (seen ks .1) k h;
   }
     where
       s : St P
-      s = play P ks (fresh P (lent d))
+      s = play P ks (fresh P (buffers d))
 
       v : Seen (plays g ks d) s
       v = seen ks .0
 
-      t : Stepped P (lent d) ks s
-      t = orders.any-order P (lent d) (free g d ok) ks
+      t : Stepped P (buffers d) ks s
+      t = orders.any-order P (buffers d) (free g d ok) ks
 
-      held : (c : Byte) (j : ℕ) → j < n → Holds g (J j) c → valueAt (lent (plays g ks d)) c ≡ valueAt (left-by g (J j) (doneBy g d ks j) (lent d)) c
-      held c j h w =
-          ap (λ (m : Buffers). valueAt m c) (v .mem) ∙ t .window j c h (h, w) ∙ ap (λ (m : Buffers). valueAt m c) (rows-are g d j (doneBy g d ks j) (lent d))
+      held : (j b i : ℕ) → j < n → InWindow g (J j) b i
+          → getD (buffers (plays g ks d) b) i 0 ≡ getD (run (onBuffer b (J j) (firstRows g (J j) (doneBy g d ks j))) (buffers d b)) i 0
+      held j b i h w =
+          ap (λ (m : Buffers). getD (m b) i 0) (v .mem) ∙ t .window j (b, i) h (h, w)
+          ∙ ap (λ (l : List ℕ). getD l i 0) (rows-are g d j (doneBy g d ks j) (buffers d) b)
+
+      -- a job with a window in a buffer lays all that it lays there
+      whole-laid : (j : Job) (b i : ℕ) (ps : List Patch) → InWindow g j b i → onBuffer b j ps ≡ ps
+      whole-laid j zero i ps w = pick-true [] (w .0)
+      whole-laid j (suc zero) i ps w = pick-false [] (w .0)
+      whole-laid j (suc (suc b)) i ps w = absurd w
 
   -- two lists of steps that take each job equally far end in one desk, records too
   pub no-matter : (q r : List ℕ) → ((j : ℕ) → j < n → doneBy g d q j ≡ doneBy g d r j) → plays g q d ≡ plays g r d
-  no-matter q r a = λ i. record { batch = record { n = (v .many ∙ sym (w .many)) i; jobs = jobs i }; proj = mems i .proj; saved = mems i .saved }
+  no-matter q r a = λ i. record { batch = record { n = (v .many ∙ sym (w .many)) i; jobs = jobs i }; proj = mems i 0; saved = mems i 1 }
     where
-      v : Seen (plays g q d) (play P q (fresh P (lent d)))
+      v : Seen (plays g q d) (play P q (fresh P (buffers d)))
       v = seen q .0
 
-      w : Seen (plays g r d) (play P r (fresh P (lent d)))
+      w : Seen (plays g r d) (play P r (fresh P (buffers d)))
       w = seen r .0
 
-      same : play P q (fresh P (lent d)) ≡ play P r (fresh P (lent d))
-      same = orders.no-matter P (lent d) (free g d ok) q r a
+      same : play P q (fresh P (buffers d)) ≡ play P r (fresh P (buffers d))
+      same = orders.no-matter P (buffers d) (free g d ok) q r a
 
-      mems : lent (plays g q d) ≡ lent (plays g r d)
+      mems : buffers (plays g q d) ≡ buffers (plays g r d)
       mems = v .mem ∙ ap (λ (s : St P). s .mem) same ∙ sym (w .mem)
 
       job : (j : ℕ) → Dec (j < n) → jobAt (plays g q d .batch) j ≡ jobAt (plays g r d .batch) j
@@ -237,34 +253,20 @@ module _ (g : Given) (d : Desk) (adm : Admitted g d) where
       jobs = ext-getD noJob (plays g q d .batch .jobs) (plays g r d .batch .jobs) (v .places ∙ sym (w .places)) (λ j _. job j (decLt j n))
 
   -- all finished equals all run whole in list order
-  wholes-are : (i : ℕ) → i ≤ n → wholes P i (lent d) ≡ record { proj = allLoads g d i; saved = allSaves g d i }
-  wholes-are zero l = refl
-  wholes-are (suc i) l =
-      rows-are g d i (countOf (g .frame) (J i)) (wholes P i (lent d))
-      ∙ ap (left-by g (J i) (countOf (g .frame) (J i))) (wholes-are i (omega arith))
-      ∙ (λ x. record { proj = run (loads x) (allLoads g d i); saved = run (saves x) (allSaves g d i) })
+  wholes-are : (i : ℕ) → i ≤ n → (b : ℕ) → wholes P i (buffers d) b ≡ allWhole g d i b
+  wholes-are zero l b = refl
+  wholes-are (suc i) l b =
+      rows-are g d i (countOf (g .frame) (J i)) (wholes P i (buffers d)) b
+      ∙ ap₂ (λ (ps : List Patch) (x : List ℕ). run (onBuffer b (J i) ps) x) (script-whole (isLoad (J i)) refl) (wholes-are i (omega arith) b)
     where
       f : Fit (handedBy g d) (J i)
       f = ok .each i (omega arith)
 
-      loads : onProj (J i) (firstRows g (J i) (countOf (g .frame) (J i))) ≡ wholeLoad g (length (d .proj)) (J i)
-      loads = by (isLoad (J i)) refl
-        where
-          by : (b : Bool) → isLoad (J i) ≡ b
-              → pick b (firstRows g (J i) (countOf (g .frame) (J i))) [] ≡ pick b (loadScript (g .fields) (g .frame) (J i .area) (g .present) (length (d .proj))) []
-          by true e = load-whole (handedBy g d) (J i) f e
-          by false e = refl
-
-      saves : onSaved (J i) (firstRows g (J i) (countOf (g .frame) (J i))) ≡ wholeSave g (length (d .saved)) (J i)
-      saves = by (isLoad (J i)) refl
-        where
-          by : (b : Bool) → isLoad (J i) ≡ b
-              → pick b [] (firstRows g (J i) (countOf (g .frame) (J i))) ≡ pick b [] (saveScript (g .recs) (g .frame) (J i .area) (J i .sby) (J i .pass) (length (d .saved)))
-          by true e = refl
-          by false e = save-whole (handedBy g d) (J i) f e
+      script-whole : (x : Bool) → isLoad (J i) ≡ x → firstRows g (J i) (countOf (g .frame) (J i)) ≡ wholeScript g d (J i)
+      script-whole true e = load-whole (handedBy g d) (J i) f e ∙ sym (pick-true _ e)
+      script-whole false e = save-whole (handedBy g d) (J i) f e ∙ sym (pick-false _ e)
 
   pub all-finished : (ks : List ℕ) → Finishes g d ks → Whole g d (plays g ks d)
-  all-finished ks a = record { projected = ap (λ (m : Buffers). m .proj) end; saved = ap (λ (m : Buffers). m .saved) end }
-    where
-      end : lent (plays g ks d) ≡ record { proj = allLoads g d n; saved = allSaves g d n }
-      end = seen ks .0 .mem ∙ orders.all-named P (lent d) (free g d ok) ks a ∙ wholes-are n (omega arith)
+  all-finished ks a = record {
+    each = λ b. ap (λ (m : Buffers). m b) (seen ks .0 .mem ∙ orders.all-named P (buffers d) (free g d ok) ks a) ∙ wholes-are n (omega arith) b;
+  }

@@ -7,9 +7,8 @@ use native.Mathlib.Numerals.{add-one}
 use native.Mathlib.Omega.{arith}
 use lib.ListN.{length, getD, drop}
 use Rattle.ground.specs.Script.{run}
-use Rattle.jobs.specs.Step.{answerOf}
-use Rattle.turns.specs.declared.turn.Turned.{Turned}
-use Rattle.turns.specs.Turn.{turnNumber, turnBatch, turnProj, turnSaved}
+use Rattle.order.specs.declared.steps.turn.Turned.{Turned}
+use Rattle.order.specs.steps.Turn.{turnBatch, turnProj, turnSaved, turned as outcome}
 use Rattle.order.specs.Desk.{Given, Desk, desk, handedBy, turn, plays}
 
 next : (g : Given) (ks : List ℕ) (d : Desk) (i : ℕ) → i < length ks → plays g (drop i ks) d ≡ plays g (drop (suc i) ks) (turn g (getD ks i 0) d)
@@ -33,7 +32,7 @@ plays-append g (k ∷ ks) ls d = plays-append g ks ls (turn g k d)
 
 -- a step as its contract tells it
 pub turned : (g : Given) (d : Desk) {k j : ℕ} {r : Turned} {p s : List ℕ} → k ≡ j
-    → r ≡ record { answer = answerOf (turnNumber (handedBy g d) (d .batch) k); batch = turnBatch (handedBy g d) (d .batch) k }
+    → r ≡ outcome (handedBy g d) (d .batch) k
     → p ≡ run (turnProj (handedBy g d) (d .batch) k) (d .proj) → s ≡ run (turnSaved (handedBy g d) (d .batch) k) (d .saved)
     → desk (r .batch) p s ≡ turn g j d
 unfolding turn

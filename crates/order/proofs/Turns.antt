@@ -12,19 +12,17 @@ use Rattle.ground.specs.Pick.{pick}
 use Rattle.ground.specs.Script.{run}
 use Rattle.ground.proofs.Answers.{refused-not}
 use Rattle.ground.proofs.Picks.{pick-true, pick-false}
-use Rattle.hints.specs.Description.{under}
 use Rattle.frame.specs.Record.{wellFrame}
-use Rattle.saving.specs.Area.{wellArea}
-use Rattle.saving.specs.Save.{saveFront}
-use Rattle.loading.specs.Load.{loadFront}
-use Rattle.job.specs.declared.record.Job.{Job}
-use Rattle.job.specs.declared.record.Batch.{Batch}
-use Rattle.job.specs.Job.{noJob, jobAt, isLoad, wellKind, countOf, jobFront}
-use Rattle.work.specs.Work.{workRead, workScript, onProj, onSaved}
-use Rattle.jobs.specs.Admit.{Handed, lengthsIn, frontOf}
+use Rattle.motion.specs.saving.Area.{wellArea}
+use Rattle.motion.specs.loading.Fields.{wellLent}
+use Rattle.jobs.specs.declared.job.record.Job.{Job}
+use Rattle.jobs.specs.declared.job.record.Batch.{Batch}
+use Rattle.jobs.specs.job.Job.{noJob, jobAt, wellKind, countOf, ownFront, jobFront}
+use Rattle.jobs.specs.work.Work.{workRead, workScript, onProj, onSaved}
+use Rattle.jobs.specs.Admit.{Handed, lengthsIn, sourcesIn, frontOf}
 use Rattle.jobs.specs.Step.{doneNumber, stepNumber, stepDone, stepProj, stepSaved}
-use Rattle.turns.specs.Turn.{withDone, names, turnNumber, turnProj, turnSaved, turnBatch}
-use Rattle.order.specs.Desk.{Given, Desk, handedBy, answerTo, turn}
+use Rattle.order.specs.steps.Turn.{withDone, names, turnNumber, turnProj, turnSaved, turnBatch}
+use Rattle.order.specs.Desk.{Given, sourcesBy, Desk, handedBy, answerTo, turn}
 use Rattle.order.proofs.Admission.{Fit}
 
 -- ---- the number, of a job as it was accepted with c steps done
@@ -34,8 +32,8 @@ module _ (h : Handed) (j : Job) (f : Fit h j) (c : ℕ) where
   ahead : c ≤ countOf (h .frame) j → frontOf h (withDone j c) ≡ 0
   unfolding jobFront countOf
   ahead l =
-      by (countOf (h .frame) j) l (not (wellFrame (h .frame) && under (h .present) 2)) (not (wellArea (h .frame .sizes) (j .area)))
-      (pick (isLoad j) (loadFront (h .frame) (j .area) (h .present) (lengthsIn h .fields) (h .nproj)) (saveFront (h .frame) (j .area) (j .pass) (length (h .recs)) (h .nsaved)))
+      by (countOf (h .frame) j) l (not (wellFrame (h .frame) && wellLent (h .lent))) (not (wellArea (h .frame .sizes) (j .area)))
+      (ownFront (h .frame) (h .lent) (lengthsIn h) j)
       (f .ahead)
     where
       by : (n : ℕ) → c ≤ n → (x y : Bool) (r : ℕ) → pick x 1 (pick y 3 (pick (ltb n (j .done)) 12 r)) ≡ 0 → pick x 1 (pick y 3 (pick (ltb n c) 12 r)) ≡ 0
@@ -49,7 +47,7 @@ module _ (h : Handed) (j : Job) (f : Fit h j) (c : ℕ) where
   unfolding wellKind
   kinds = f .kind
 
-  opened : c ≤ countOf (h .frame) j → stepNumber h (withDone j c) ≡ pick (eqb c (countOf (h .frame) (withDone j c))) doneNumber (workRead (h .frame) (h .fields) (h .recs) (withDone j c) c)
+  opened : c ≤ countOf (h .frame) j → stepNumber h (withDone j c) ≡ pick (eqb c (countOf (h .frame) (withDone j c))) doneNumber (workRead (h .frame) (sourcesIn h) (h .recs) (withDone j c) c)
   unfolding stepNumber
   opened l = rw (kinds, ahead l)
 
@@ -82,8 +80,8 @@ named-out b k l = by (leb (b .n) 8)
 abbrev pub onward : Given → ℕ → Job → ℕ → Desk → Desk
 onward g k j c e = record {
   batch = record { n = e .batch .n; jobs = set (e .batch .jobs) k (withDone j (c + 1)) };
-  proj = run (onProj j (workScript (g .frame) (g .fields) (g .recs) j c)) (e .proj);
-  saved = run (onSaved j (workScript (g .frame) (g .fields) (g .recs) j c)) (e .saved);
+  proj = run (onProj j (workScript (g .frame) (sourcesBy g) (g .recs) j c)) (e .proj);
+  saved = run (onSaved j (workScript (g .frame) (sourcesBy g) (g .recs) j c)) (e .saved);
 }
 
 module _ (g : Given) (k : ℕ) (e : Desk) where

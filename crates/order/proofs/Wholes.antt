@@ -15,18 +15,18 @@ use Rattle.ground.specs.Span.{over, span}
 use Rattle.ground.proofs.Answers.{refused-not, or-accepts}
 use Rattle.ground.proofs.Picks.{pick-true, pick-false}
 use Rattle.ground.proofs.Spans as spans
-use Rattle.hints.specs.Description.{under}
 use Rattle.frame.specs.Record.{wellFrame}
-use Rattle.extent.specs.Sizes.{records}
-use Rattle.saving.specs.Area.{wellArea, stripOf, bottomOf}
-use Rattle.saving.specs.Save.{rowRead, rowPatch, saveTable, saveFront, saveReads, saveAnswer, saveScript}
-use Rattle.loading.specs.Load.{stepsOf, stepRead, stepScript, loadFront, loadReads, loadAnswer, loadScript}
-use Rattle.loading.specs.Used.{usesOf}
-use Rattle.loading.proofs.Steps.{whole-steps}
-use Rattle.job.specs.declared.record.Job.{Job}
-use Rattle.job.specs.Job.{isLoad, windowIn, stripIn, countOf, jobFront}
-use Rattle.work.specs.Work.{workRead, workScript}
-use Rattle.jobs.specs.Admit.{Handed, lengthsIn}
+use Rattle.frame.specs.extent.Sizes.{records}
+use Rattle.motion.specs.saving.Area.{wellArea, stripOf, bottomOf}
+use Rattle.motion.specs.saving.Save.{rowRead, rowPatch, saveTable, saveFront, saveReads, saveAnswer, saveScript}
+use Rattle.motion.specs.loading.Fields.{wellLent}
+use Rattle.motion.specs.loading.Load.{stepsOf, stepRead, stepScript, loadFront, loadReads, loadAnswer, loadScript}
+use Rattle.motion.specs.loading.Used.{usesOf}
+use Rattle.motion.proofs.loading.Steps.{whole-steps}
+use Rattle.jobs.specs.declared.job.record.Job.{Job}
+use Rattle.jobs.specs.job.Job.{isLoad, windowIn, stripIn, countOf, ownFront, jobFront}
+use Rattle.jobs.specs.work.Work.{workRead, workScript}
+use Rattle.jobs.specs.Admit.{Handed, lengthsIn, sourcesIn}
 use Rattle.order.proofs.Admission.{Fit}
 
 accepted-all : (n : ℕ) (ps : List Patch) → n ≡ 0 → ps ≡ accepted n ps
@@ -34,10 +34,10 @@ accepted-all n ps e = rw e
 
 module _ (h : Handed) (j : Job) (f : Fit h j) where
   -- its own front, behind what is judged of every job
-  front-own : pick (isLoad j) (loadFront (h .frame) (j .area) (h .present) (lengthsIn h .fields) (h .nproj)) (saveFront (h .frame) (j .area) (j .pass) (length (h .recs)) (h .nsaved)) ≡ 0
+  front-own : ownFront (h .frame) (h .lent) (lengthsIn h) j ≡ 0
   unfolding jobFront
   front-own =
-      let p = refused-not (not (wellFrame (h .frame) && under (h .present) 2)) 0 _ (f .ahead) in
+      let p = refused-not (not (wellFrame (h .frame) && wellLent (h .lent))) 0 _ (f .ahead) in
       let q = refused-not (not (wellArea (h .frame .sizes) (j .area))) 2 _ (p .1) in
       refused-not (ltb (countOf (h .frame) j) (j .done)) 11 _ (q .1) .1
 
@@ -47,21 +47,21 @@ module _ (h : Handed) (j : Job) (f : Fit h j) where
     unfolding countOf
     load-count = pick-true _ e
 
-    load-accepted : loadAnswer (h .fields) (h .frame) (j .area) (h .present) (h .nproj) ≡ 0
+    load-accepted : loadAnswer (h .fields) (h .frame) (j .area) (h .lent) (h .nproj) ≡ 0
     unfolding loadAnswer loadReads workRead
     load-accepted =
-        or-accepts (loadFront (h .frame) (j .area) (h .present) (lengthsIn h .fields) (h .nproj)) _ (sym (pick-true _ e) ∙ front-own)
-        ∙ spans.none-refuses (stepRead (h .fields) (windowIn (h .frame) j) (usesOf (h .frame))) 0 (stepsOf (windowIn (h .frame) j) (usesOf (h .frame))) (λ k _ l. read k l)
+        or-accepts (loadFront (h .frame) (j .area) (h .lent) (lengthsIn h .fields) (h .nproj)) _ (sym (pick-true _ e) ∙ front-own)
+        ∙ spans.none-refuses (stepRead (sourcesIn h) (windowIn (h .frame) j)) 0 (stepsOf (windowIn (h .frame) j) (usesOf (h .frame))) (λ k _ l. read k l)
       where
-        read : (k : ℕ) → k < stepsOf (windowIn (h .frame) j) (usesOf (h .frame)) → stepRead (h .fields) (windowIn (h .frame) j) (usesOf (h .frame)) k ≡ 0
+        read : (k : ℕ) → k < stepsOf (windowIn (h .frame) j) (usesOf (h .frame)) → stepRead (sourcesIn h) (windowIn (h .frame) j) k ≡ 0
         read k l = sym (pick-true _ e) ∙ f .reads k (omega (arith, l, load-count))
 
-    pub load-whole : span (workScript (h .frame) (h .fields) (h .recs) j) 0 (countOf (h .frame) j) ≡ loadScript (h .fields) (h .frame) (j .area) (h .present) (h .nproj)
+    pub load-whole : span (workScript (h .frame) (sourcesIn h) (h .recs) j) 0 (countOf (h .frame) j) ≡ loadScript (h .fields) (h .frame) (j .area) (h .lent) (h .nproj)
     unfolding workScript loadScript
     load-whole =
-        ap (span (workScript (h .frame) (h .fields) (h .recs) j) 0) load-count
-        ∙ spans.alike (workScript (h .frame) (h .fields) (h .recs) j) (stepScript (h .fields) (windowIn (h .frame) j) (usesOf (h .frame))) 0 (stepsOf (windowIn (h .frame) j) (usesOf (h .frame))) (λ k _ _. pick-true _ e)
-        ∙ sym (whole-steps (h .fields) (windowIn (h .frame) j) (usesOf (h .frame)))
+        ap (span (workScript (h .frame) (sourcesIn h) (h .recs) j) 0) load-count
+        ∙ spans.alike (workScript (h .frame) (sourcesIn h) (h .recs) j) (stepScript (sourcesIn h) (windowIn (h .frame) j) (usesOf (h .frame))) 0 (stepsOf (windowIn (h .frame) j) (usesOf (h .frame))) (λ k _ _. pick-true _ e)
+        ∙ sym (whole-steps (sourcesIn h) (windowIn (h .frame) j) (usesOf (h .frame)))
         ∙ accepted-all _ _ load-accepted
 
   -- A SAVE
@@ -86,11 +86,11 @@ module _ (h : Handed) (j : Job) (f : Fit h j) where
             ap (rowRead (h .recs) (records (h .frame .sizes)) (saveTable (h .frame) (j .area) (j .sby) (j .pass)) (stripIn (h .frame) j)) q
             ∙ sym (pick-false _ e) ∙ f .reads (y - j .area .top .0) (omega (arith, a, b, save-count))
 
-    pub save-whole : span (workScript (h .frame) (h .fields) (h .recs) j) 0 (countOf (h .frame) j) ≡ saveScript (h .recs) (h .frame) (j .area) (j .sby) (j .pass) (h .nsaved)
+    pub save-whole : span (workScript (h .frame) (sourcesIn h) (h .recs) j) 0 (countOf (h .frame) j) ≡ saveScript (h .recs) (h .frame) (j .area) (j .sby) (j .pass) (h .nsaved)
     unfolding workScript saveScript row span
     save-whole =
-        ap (span (workScript (h .frame) (h .fields) (h .recs) j) 0) save-count
-        ∙ spans.alike (workScript (h .frame) (h .fields) (h .recs) j) (λ k. row (j .area .top .0 + k)) 0 (bottomOf (h .frame .sizes) (j .area) - j .area .top .0) (λ k _ _. pick-false _ e)
+        ap (span (workScript (h .frame) (sourcesIn h) (h .recs) j) 0) save-count
+        ∙ spans.alike (workScript (h .frame) (sourcesIn h) (h .recs) j) (λ k. row (j .area .top .0 + k)) 0 (bottomOf (h .frame .sizes) (j .area) - j .area .top .0) (λ k _ _. pick-false _ e)
         ∙ spans.shifted row (j .area .top .0) 0 (bottomOf (h .frame .sizes) (j .area) - j .area .top .0)
         ∙ ap₂ (over row) many (add-zero (j .area .top .0))
         ∙ accepted-all _ _ save-accepted

@@ -10,22 +10,22 @@ use native.Mathlib.Omega.{arith}
 use Rattle.ground.proofs.Products.{row-of, col-of}
 use Rattle.ground.specs.Script.{Patch, Inside, Avoids}
 use Rattle.ground.proofs.Scripts.{inside-avoids}
-use Rattle.saving.specs.declared.area.Strip.{Strip}
-use Rattle.saving.specs.declared.area.Window.{Window}
-use Rattle.landing.specs.Lands.{spot}
-use Rattle.landing.specs.Targets.{Outside}
-use Rattle.job.specs.Share.{LoadCell, SaveCell}
-use Rattle.job.proofs.Shared.{Framed, Walked, place}
+use Rattle.motion.specs.declared.saving.area.Strip.{Strip}
+use Rattle.motion.specs.declared.saving.area.Window.{Window}
+use Rattle.motion.specs.landing.Lands.{spot}
+use Rattle.motion.specs.landing.Targets.{Outside}
+use Rattle.jobs.specs.job.Share.{LoadCell, SaveCell}
+use Rattle.jobs.proofs.job.Shared.{Framed, Walked, place}
 
 -- the row that a cell of a load's window comes from: of at most 16 rows there is one for each number modulo 16
 abbrev rowFrom : Window → ℕ → ℕ
-rowFrom w p = w .top + (p % 16 + 16 - w .top % 16) % 16
+rowFrom w p = w .top .0 + (p % 16 + 16 - w .top .0 % 16) % 16
 
 split : (c s : ℕ) → 0 < s → c ≡ c / s * s + c % s
 split c s h = sym (div-add-mod c s) ∙ ap (λ (n : ℕ). n + c % s) (mul-comm s (c / s))
 
 pub load? : (s : ℕ) (w : Window) (g : Framed s w) → 0 < s → (c : ℕ) → Dec (LoadCell w c)
-load? s w g some c = by (ℕ-discrete (c / s / 16) (g .part)) (decLt (rowFrom w (c / s)) (w .bottom)) (decLe (w .left) (c % s)) (decLt (c % s) (w .right))
+load? s w g some c = by (ℕ-discrete (c / s / 16) (g .part)) (decLt (rowFrom w (c / s)) (w .bottom .0)) (decLe (w .left .0) (c % s)) (decLt (c % s) (w .right .0))
   where
     -- the row and the column of a cell that is in the window
     at-row : (x : LoadCell w c) → c / s ≡ 16 * g .part + x .row % 16
@@ -37,7 +37,7 @@ load? s w g some c = by (ℕ-discrete (c / s / 16) (g .part)) (decLt (rowFrom w 
     the-row : (x : LoadCell w c) → rowFrom w (c / s) ≡ x .row
     the-row x = omega (arith, at-row x, x .from, x .to, g .rows)
 
-    by : Dec (c / s / 16 ≡ g .part) → Dec (rowFrom w (c / s) < w .bottom) → Dec (w .left ≤ c % s) → Dec (c % s < w .right) → Dec (LoadCell w c)
+    by : Dec (c / s / 16 ≡ g .part) → Dec (rowFrom w (c / s) < w .bottom .0) → Dec (w .left .0 ≤ c % s) → Dec (c % s < w .right .0) → Dec (LoadCell w c)
     by (yes e) (yes t) (yes l) (yes r) =
         let k : 16 * g .part + rowFrom w (c / s) % 16 ≡ c / s = omega arith in
         yes
@@ -56,7 +56,7 @@ load? s w g some c = by (ℕ-discrete (c / s / 16) (g .part)) (decLt (rowFrom w 
     by (yes e) (yes t) (yes l) (no r) = no (λ x. r (omega (arith, at-col x, x .right)))
 
 pub save? : (s : ℕ) (w : Strip) → Walked s w → 0 < s → (c : ℕ) → Dec (SaveCell w c)
-save? s w g some c = by (decLe (w .top) (c / s)) (decLt (c / s) (w .bottom)) (decLe (w .left) (c % s)) (decLt (c % s) (w .limit))
+save? s w g some c = by (decLe (w .top .0) (c / s)) (decLt (c / s) (w .bottom .0)) (decLe (w .left .0) (c % s)) (decLt (c % s) (w .limit .0))
   where
     is : (x : SaveCell w c) → c ≡ x .row * s + x .col
     is x = x .is ∙ ap (λ (n : ℕ). x .row * n + x .col) (g .stride)
@@ -67,7 +67,7 @@ save? s w g some c = by (decLe (w .top) (c / s)) (decLt (c / s) (w .bottom)) (de
     at-col : (x : SaveCell w c) → c % s ≡ x .col
     at-col x = ap (λ (n : ℕ). n % s) (is x) ∙ col-of (x .row) s (x .col) (omega (arith, x .right, g .columns))
 
-    by : Dec (w .top ≤ c / s) → Dec (c / s < w .bottom) → Dec (w .left ≤ c % s) → Dec (c % s < w .limit) → Dec (SaveCell w c)
+    by : Dec (w .top .0 ≤ c / s) → Dec (c / s < w .bottom .0) → Dec (w .left .0 ≤ c % s) → Dec (c % s < w .limit .0) → Dec (SaveCell w c)
     by (yes a) (yes b) (yes l) (yes r) =
         yes
         (record {
@@ -95,14 +95,14 @@ load-outside w i n r q a b c d = by (decLt i (5 * spot w r q)) (decLt i (5 * spo
     by (no l) (yes m) = absurd (n (record { row = r; col = q; from = a; to = b; left = c; right = d; is = omega arith }))
 
 -- and one of no cell of a save's window is avoided by what lies in row y's columns
-pub save-avoids : (w : Strip) (i y : ℕ) (ps : List Patch) → ¬ SaveCell w (i / 5) → w .top ≤ y → y < w .bottom
-    → Inside (5 * (y * w .stride + w .left)) (5 * (y * w .stride + w .limit)) ps → Avoids i ps
+pub save-avoids : (w : Strip) (i y : ℕ) (ps : List Patch) → ¬ SaveCell w (i / 5) → w .top .0 ≤ y → y < w .bottom .0
+    → Inside (5 * (y * w .stride .0 + w .left .0)) (5 * (y * w .stride .0 + w .limit .0)) ps → Avoids i ps
 save-avoids w i y ps n a b h =
-    inside-avoids (5 * (y * w .stride + w .left)) (5 * (y * w .stride + w .limit)) i ps h
-    (by (decLt i (5 * (y * w .stride + w .left))) (decLt i (5 * (y * w .stride + w .limit))))
+    inside-avoids (5 * (y * w .stride .0 + w .left .0)) (5 * (y * w .stride .0 + w .limit .0)) i ps h
+    (by (decLt i (5 * (y * w .stride .0 + w .left .0))) (decLt i (5 * (y * w .stride .0 + w .limit .0))))
   where
-    by : Dec (i < 5 * (y * w .stride + w .left)) → Dec (i < 5 * (y * w .stride + w .limit)) → (i < 5 * (y * w .stride + w .left)) ⊎ (5 * (y * w .stride + w .limit) ≤ i)
+    by : Dec (i < 5 * (y * w .stride .0 + w .left .0)) → Dec (i < 5 * (y * w .stride .0 + w .limit .0)) → (i < 5 * (y * w .stride .0 + w .left .0)) ⊎ (5 * (y * w .stride .0 + w .limit .0) ≤ i)
     by (yes l) m = _⊎_.inl l
     by (no l) (no m) = _⊎_.inr (omega arith)
     by (no l) (yes m) =
-        absurd (n (record { row = y; col = i / 5 - y * w .stride; from = a; to = b; left = omega arith; right = omega arith; is = omega arith }))
+        absurd (n (record { row = y; col = i / 5 - y * w .stride .0; from = a; to = b; left = omega arith; right = omega arith; is = omega arith }))

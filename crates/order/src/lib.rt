@@ -1,2 +1,3 @@
 // Steps in any order: a batch that was admitted, and a list of steps.
 pub mod play;
+pub mod steps;

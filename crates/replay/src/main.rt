@@ -1,6 +1,9 @@
 // Plays a capture from standard input, and prints what its jobs left (docs/REPLAY.md).
+mod cells_of;
+mod show;
+
+use crate::show::show;
 use libc::STDIN_FILENO;
-use report::show::show;
 
 // One more than a capture may have, so that a longer one is told from the longest.
 const SPACE: usize = 65537;

@@ -1,4 +1,5 @@
--- Where the rows of a table lie: each is a whole row of the tile row's part, no two overlap, and the parts of two tile rows or two passes lie apart inside the listed records.
+-- Where the rows of a table lie: each is a whole row of the tile row's part, no two overlap, and the parts of two tile rows or two passes lie apart
+-- inside the listed records.
 -- Assumes nothing.
 use mathlib.Core.Path.{_≡_, refl, sym, ap, _∙_}
 use mathlib.Core.Logic.{_⊎_, inl, inr}
@@ -13,9 +14,9 @@ use Rattle.ground.proofs.Picks.{both, pick-true, pick-false}
 use Rattle.ground.proofs.Belows as belows
 use Rattle.ground.proofs.Diffs.{Which, more, less, which}
 use Rattle.ground.proofs.Products.{row-fits}
-use Rattle.extent.specs.declared.sizes.Sizes.{Sizes}
-use Rattle.extent.specs.Sizes.{superblock, partOf, records, wellSizes}
-use Rattle.extent.proofs.Sizing.{fits, part-fits}
+use Rattle.frame.specs.declared.extent.sizes.Sizes.{Sizes}
+use Rattle.frame.specs.extent.Sizes.{superblock, partOf, records, wellSizes}
+use Rattle.frame.proofs.extent.Sizing.{fits, part-fits}
 use Rattle.rows.specs.declared.table.Place.{Place}
 use Rattle.rows.specs.declared.table.Place.the-variants.{Absent, At}
 use Rattle.rows.specs.Table.{rowOf, partner, offsetOf, rowAt, placed, entryAt, tableOf, placeAt}
@@ -96,46 +97,46 @@ Stands s sby tile pass e a = placeAt (tableFor s sby tile pass) e ≡ At a
 module _ (s : Sizes) (well : wellSizes s ≡ true) where
   -- it is a whole row of the tile row's part
   pub row-within : (sby tile pass e a : ℕ) → inFrame s tile ≡ true → Stands s sby tile pass e a
-      → (partStart s (partOf s tile) pass ≤ a) × (a + 2 * s .stride ≤ partStart s (partOf s tile) pass + 70 * s .stride)
+      → (partStart s (partOf s tile) pass ≤ a) × (a + 2 * s .stride .0 ≤ partStart s (partOf s tile) pass + 70 * s .stride .0)
   unfolding tableFor
   row-within sby tile pass e a h k =
-      let p = present (s .sbsz) (oddRow sby) (partStart s (partOf s tile) pass) (2 * s .stride) e a k in
-      let o = own (s .sbsz) (oddRow sby) e (p .row) (fits s well .superblock) (p .small) (p .here) in
-      let r = row-fits (p .row) 35 (2 * s .stride) (low (sides (s .sbsz) (fits s well .superblock)) (o .low)) in
+      let p = present (s .sbsz .0) (oddRow sby) (partStart s (partOf s tile) pass) (2 * s .stride .0) e a k in
+      let o = own (s .sbsz .0) (oddRow sby) e (p .row) (fits s well .superblock) (p .small) (p .here) in
+      let r = row-fits (p .row) 35 (2 * s .stride .0) (low (sides (s .sbsz .0) (fits s well .superblock)) (o .low)) in
       (omega (arith, p .is), omega (arith, p .is))
     where
-      low : {j : ℕ} → (s .sbsz ≡ 16) ⊎ (s .sbsz ≡ 32) → j < s .sbsz + 3 → j < 35
+      low : {j : ℕ} → (s .sbsz .0 ≡ 16) ⊎ (s .sbsz .0 ≡ 32) → j < s .sbsz .0 + 3 → j < 35
       low (inl e) l = omega arith
       low (inr e) l = omega arith
 
   -- inside the listed records
-  pub row-listed : (sby tile pass e a : ℕ) → inFrame s tile ≡ true → Stands s sby tile pass e a → a + 2 * s .stride < records s
+  pub row-listed : (sby tile pass e a : ℕ) → inFrame s tile ≡ true → Stands s sby tile pass e a → a + 2 * s .stride .0 < records s
   row-listed sby tile pass e a h k =
       omega (arith, row-within sby tile pass e a h k .1, part-listed s (partOf s tile) pass (part-fits s tile (fits s well) (in-frame s tile h)))
 
   -- two entries of a table stand for two rows
   pub rows-distinct : (sby tile pass e k a b : ℕ) → Stands s sby tile pass e a → Stands s sby tile pass k b → (e ≡ k → ⊥)
-      → (a + 2 * s .stride ≤ b) ⊎ (b + 2 * s .stride ≤ a)
+      → (a + 2 * s .stride .0 ≤ b) ⊎ (b + 2 * s .stride .0 ≤ a)
   unfolding tableFor
   rows-distinct sby tile pass e k a b f g n =
-      let p = present (s .sbsz) (oddRow sby) (partStart s (partOf s tile) pass) (2 * s .stride) e a f in
-      let q = present (s .sbsz) (oddRow sby) (partStart s (partOf s tile) pass) (2 * s .stride) k b g in
-      let o = own (s .sbsz) (oddRow sby) e (p .row) (fits s well .superblock) (p .small) (p .here) in
-      let r = own (s .sbsz) (oddRow sby) k (q .row) (fits s well .superblock) (q .small) (q .here) in
+      let p = present (s .sbsz .0) (oddRow sby) (partStart s (partOf s tile) pass) (2 * s .stride .0) e a f in
+      let q = present (s .sbsz .0) (oddRow sby) (partStart s (partOf s tile) pass) (2 * s .stride .0) k b g in
+      let o = own (s .sbsz .0) (oddRow sby) e (p .row) (fits s well .superblock) (p .small) (p .here) in
+      let r = own (s .sbsz .0) (oddRow sby) k (q .row) (fits s well .superblock) (q .small) (q .here) in
       rw (p .is, q .is)
-      (rows-part (partStart s (partOf s tile) pass) (2 * s .stride) (p .row) (q .row)
-      (λ e′. n (sym (o .line) ∙ ap (lineOf (s .sbsz) (oddRow sby)) e′ ∙ r .line)))
+      (rows-part (partStart s (partOf s tile) pass) (2 * s .stride .0) (p .row) (q .row)
+      (λ e′. n (sym (o .line) ∙ ap (lineOf (s .sbsz .0) (oddRow sby)) e′ ∙ r .line)))
 
   -- tile rows with parts of their own lie apart, whatever superblock rows they are at
   pub parts-apart : (pass y t e a z u k b : ℕ) → inFrame s t ≡ true → inFrame s u ≡ true → partOf s t < partOf s u
-      → Stands s y t pass e a → Stands s z u pass k b → a + 2 * s .stride ≤ b
+      → Stands s y t pass e a → Stands s z u pass k b → a + 2 * s .stride .0 ≤ b
   unfolding partStart
   parts-apart pass y t e a z u k b h i l f g =
-      omega (arith, row-within y t pass e a h f .1, row-within z u pass k b i g .0, row-fits (partOf s t) (partOf s u) (s .stride) l)
+      omega (arith, row-within y t pass e a h f .1, row-within z u pass k b i g .0, row-fits (partOf s t) (partOf s u) (s .stride .0) l)
 
   -- and so do the two passes, where frames are under way at once
   pub passes-apart : (y t e a z u k b : ℕ) → inFrame s t ≡ true → inFrame s u ≡ true → 1 < s .«n_frame_threads»
-      → Stands s y t 1 e a → Stands s z u 2 k b → a + 2 * s .stride ≤ b
+      → Stands s y t 1 e a → Stands s z u 2 k b → a + 2 * s .stride .0 ≤ b
   unfolding partStart passStart
   passes-apart y t e a z u k b h i l f g =
       let two : passStart s 2 ≡ 70 * s .«n_blocks» = pick-true 0 (ap (λ (c : Bool). c && true) (lt-ltb 1 _ l)) in

@@ -1,9 +1,9 @@
 -- The row table of a superblock row: which row of records each of the 37 entries stands for.
 use mathlib.Core.Bool.{Bool, _&&_}
 use mathlib.Core.List.{List}
-use Prim.Native.Nat.{ℕ, zero, suc, _+_, _-_, _*_}
+use Prim.Native.Nat.{ℕ, _+_, _-_, _*_}
 use lib.Dec.{eqb, ltb, leb}
-use lib.ListN.{getD, set, replicate}
+use lib.ListN.{getD}
 use Rattle.ground.specs.Pick.{pick}
 use Rattle.ground.specs.Tab.{tab}
 use Rattle.rows.specs.declared.table.Place.{Place}
@@ -55,20 +55,3 @@ tableOf n odd first stride = tab (entryAt n odd first stride) 0 37
 -- an entry's place; past the table there is none
 unfoldable pub placeAt : List RowEntry → ℕ → Place
 placeAt rows e = pick (ltb e 37) (getD rows e none .at) Absent
-
--- How the code makes the table, step by step; proofs/Tabled has it equal to the definition above.
-unfoldable pub filled : List RowEntry → ℕ → ℕ → ℕ → ℕ → List RowEntry
-filled rows at zero first stride = rows
-filled rows at (suc n) first stride = set (filled rows at n first stride) (at + n) (there (first + n * stride))
-
-abbrev pub swapped : List RowEntry → ℕ → ℕ → List RowEntry
-swapped rows i j = set (set rows i (getD rows j none)) j (getD rows i none)
-
-unfoldable pub swaps : List RowEntry → ℕ → ℕ → List RowEntry
-swaps rows off n = swapped (swapped (swapped rows off (off + n)) (off + 2) (off + n + 2)) (off + 4) (off + n + 4)
-
-unfoldable pub plain : ℕ → ℕ → ℕ → ℕ → List RowEntry
-plain n off first stride =
-    set (set (set (filled (replicate 37 none) (off + 5) n first stride) off (there (first + n * stride)))
-    (off + 2) (there (first + (n + 1) * stride)))
-    (off + 4) (there (first + (n + 2) * stride))

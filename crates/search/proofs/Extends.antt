@@ -10,23 +10,27 @@ use Rattle.cells.specs.declared.cell.Ref.{Ref}
 use Rattle.cells.specs.declared.block.MvPair.{MvPair}
 use Rattle.cells.specs.declared.block.RefPair.{RefPair}
 use Rattle.frame.specs.declared.record.Frame.{Frame}
-use Rattle.site.specs.declared.block.Site.{Site}
-use Rattle.site.specs.Site.{depthOf, Placed}
-use Rattle.neighbours.specs.declared.read.Line.{Line}
-use Rattle.neighbours.specs.declared.read.Read.{Read}
-use Rattle.neighbours.specs.Neighbour.{lineAt}
-use Rattle.around.specs.Lines.{nearLine}
-use Rattle.around.specs.Around.{Lent}
-use Rattle.around.proofs.Places.{near-down, near-room}
-use Rattle.stack.specs.Stack.{State, Found, view}
-use Rattle.stack.specs.Answered.{Outcome, outcome}
+use Rattle.spatial.specs.declared.site.block.Site.{Site}
+use Rattle.spatial.specs.site.Site.{depthOf}
+use Rattle.spatial.specs.Code.Site.{Placed}
+use Rattle.spatial.specs.declared.neighbours.read.Line.{Line}
+use Rattle.spatial.specs.declared.neighbours.read.NeighbourRead.{NeighbourRead}
+use Rattle.spatial.specs.neighbours.Neighbour.{lineAt}
+use Rattle.spatial.specs.around.Lines.{nearLine}
+use Rattle.spatial.specs.Code.Around.{Lent}
+use Rattle.spatial.proofs.around.Places.{near-down, near-room}
+use Rattle.stack.specs.Stack.{State}
+use Rattle.stack.specs.Code.Found.{Found, view, outcome}
+use Rattle.stack.specs.Answered.{Outcome}
 use Rattle.stack.proofs.Answers.{is-found, is-refused}
-use Rattle.extra.specs.declared.walk.Pooled.{Pooled}
-use Rattle.extra.specs.Lists.{isRef}
-use Rattle.extra.specs.Pool.{Both, poolsOf, nothing, pairAt, completed}
-use Rattle.extra.specs.Walk.{Gathering, pooled, singleOn, compoundOn}
-use Rattle.extra.specs.Walk as walks
-use Rattle.extra.proofs.Walks.{is-gathered, is-stopped}
+use Rattle.search.specs.declared.extra.walk.Pooled.{Pooled}
+use Rattle.cells.specs.Cell.{isRef}
+use Rattle.search.specs.extra.Pool.{Both, nothing, pairAt, completed}
+use Rattle.search.specs.Code.Pool.{poolsOf}
+use Rattle.search.specs.extra.Walk.{Gathering, singleOn, compoundOn}
+use Rattle.search.specs.Code.Walk.{pooled}
+use Rattle.search.specs.Code.Walk as code
+use Rattle.search.proofs.extra.Walks.{is-gathered, is-stopped}
 use Rattle.search.specs.Extend.{biasesOf, extraLimit, singleWhere, singleExtra, compoundWhere, compoundExtra, extraOf}
 
 -- there are seven sign biases
@@ -36,13 +40,13 @@ biases-seven f e = rw e
 
 -- a side's line is one that a walk may go along
 pub near-lent : {ntile nrecs total limit : ℕ} {l : Line} (down : Bool) (b : Site) → Lent ntile nrecs total → Placed b → l ≡ nearLine down b → limit ≤ 16
-    → walks.Lent ntile nrecs total l limit
+    → code.Lent ntile nrecs total l limit
 near-lent down b h p e s =
     let r = near-room h b p down in
     rw e (record { tile = r .tile; recs = r .recs; entry = r .entry; col = r .col; short = s })
 
 -- a side that isn't at the tile's edge
-module _ (read : ℕ → ℕ → Read) (b : Site) (down : Bool) (biases : List ℕ) {l : Line} {limit : ℕ} (i : l ≡ nearLine down b) (j : limit ≡ extraLimit b) (n : depthOf down b ≡ 0 → ⊥) where
+module _ (read : ℕ → ℕ → NeighbourRead) (b : Site) (down : Bool) (biases : List ℕ) {l : Line} {limit : ℕ} (i : l ≡ nearLine down b) (j : limit ≡ extraLimit b) (n : depthOf down b ≡ 0 → ⊥) where
   pub single-is : {o : Outcome} (r : Ref) (s : State) → o ≡ singleOn (lineAt read l) (l .down) limit biases r limit 0 s → o ≡ singleWhere read b down biases r s
   unfolding singleWhere
   single-is r s e = e ∙ rw (i, j, near-down down b, ne-eqb (depthOf down b) 0 n)
@@ -52,7 +56,7 @@ module _ (read : ℕ → ℕ → Read) (b : Site) (down : Bool) (biases : List �
   compound-is refs p e = e ∙ rw (i, j, near-down down b, ne-eqb (depthOf down b) 0 n)
 
 -- the returns of `single_extra`
-module _ (read : ℕ → ℕ → Read) (b : Site) (biases : List ℕ) (r : Ref) (s : State) (above : ℕ) (u : Found) (e : outcome above u ≡ singleWhere read b false biases r s) where
+module _ (read : ℕ → ℕ → NeighbourRead) (b : Site) (biases : List ℕ) (r : Ref) (s : State) (above : ℕ) (u : Found) (e : outcome above u ≡ singleWhere read b false biases r s) where
   pub single-stops : (above ≡ 0 → ⊥) → outcome above u ≡ singleExtra read b biases r s
   unfolding singleExtra
   single-stops n = rw (← e, is-refused above u n)
@@ -62,7 +66,7 @@ module _ (read : ℕ → ℕ → Read) (b : Site) (biases : List ℕ) (r : Ref) 
   single-ends z d = rw (← e, is-found above u z) d
 
 -- those of `compound_extra`
-module _ (read : ℕ → ℕ → Read) (b : Site) (biases : List ℕ) (refs : RefPair) (g : MvPair) (s : Found) {p : Both} (k : p ≡ nothing) (above : Pooled) (e : pooled above ≡ compoundWhere read b false biases refs p) where
+module _ (read : ℕ → ℕ → NeighbourRead) (b : Site) (biases : List ℕ) (refs : RefPair) (g : MvPair) (s : Found) {p : Both} (k : p ≡ nothing) (above : Pooled) (e : pooled above ≡ compoundWhere read b false biases refs p) where
   pub compound-stops : (above .answer ≡ 0 → ⊥) → outcome (above .answer) s ≡ compoundExtra read b biases refs g (view s)
   unfolding compoundExtra
   compound-stops n = rw (← k, ← e, is-stopped above n) (is-refused (above .answer) s n)
@@ -79,7 +83,7 @@ module _ (read : ℕ → ℕ → Read) (b : Site) (biases : List ℕ) (refs : Re
         rw (← k, ← e, is-gathered above z, ← d, is-gathered both y, ← q, ← v, ← w) (is-found 0 t refl)
 
 -- and those of `extend`
-module _ (read : ℕ → ℕ → Read) (b : Site) (biases : List ℕ) (refs : RefPair) (g : MvPair) (s : Found) (n : length (view s .cands) ≡ s .count) where
+module _ (read : ℕ → ℕ → NeighbourRead) (b : Site) (biases : List ℕ) (refs : RefPair) (g : MvPair) (s : Found) (n : length (view s .cands) ≡ s .count) where
   pub extra-enough : 2 ≤ s .count → outcome 0 s ≡ extraOf read b biases refs g (view s)
   unfolding extraOf
   extra-enough h = rw (n, le-leb 2 (s .count) h) (is-found 0 s refl)

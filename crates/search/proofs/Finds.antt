@@ -1,36 +1,37 @@
 -- One part of a search after the other: each goes on from what the one before it found, and the first refusal is the answer.
 -- Assumes nothing.
 use mathlib.Core.Path.{_≡_, refl, sym, ap, _∙_, subst}
-use mathlib.Core.Bool.{Bool, true, not}
+use mathlib.Core.Bool.{Bool, true}
 use mathlib.Core.List.{List, [], _∷_}
 use Prim.Native.Nat.{ℕ, zero, suc, _+_, _≤_, min}
 use native.Mathlib.Nat.{lt-irrefl}
 use native.Mathlib.Omega.{arith}
 use lib.Dec.{eqb}
-use lib.ListN.{length, getD, take, drop}
+use lib.ListN.{length, take, drop}
 use borrow.Author.Tests.{eq-eqb, ne-eqb}
 use Rattle.ground.proofs.Diffs.{Which, more, less, which}
 use Rattle.ground.proofs.Picks.{pick-true, pick-false}
 use Rattle.vector.specs.declared.mv.Mv.{Mv}
 use Rattle.cells.specs.declared.block.MvPair.{MvPair}
-use Rattle.extent.specs.declared.sizes.Sizes.{Sizes}
+use Rattle.frame.specs.declared.extent.sizes.Sizes.{Sizes}
 use Rattle.frame.specs.declared.record.Frame.{Frame}
 use Rattle.frame.specs.Record.{wellFrame}
-use Rattle.extent.specs.Sizes.{wellSizes, records, projectedCells}
+use Rattle.frame.specs.extent.Sizes.{mostUnits, wellSizes, records, projectedCells}
 use Rattle.frame.proofs.Records.{frame-sizes}
-use Rattle.extent.proofs.Sizing.{fits, eighths-most}
-use Rattle.rows.specs.declared.setup.Tile.{Tile}
+use Rattle.frame.proofs.extent.Sizing.{fits, eighths-most}
+use Rattle.rows.specs.Setup.{Tile}
 use Rattle.layout.specs.FrameBytes.{sizesAt, frameAt}
 use Rattle.layout.specs.TileBytes.{tileAt}
-use Rattle.site.specs.declared.block.Site.{Site}
-use Rattle.site.specs.Site.{Placed}
-use Rattle.neighbours.specs.declared.read.Read.{Read}
-use Rattle.neighbours.specs.declared.want.Want.{Want}
-use Rattle.neighbours.specs.Neighbour.{readAt}
+use Rattle.spatial.specs.declared.site.block.Site.{Site}
+use Rattle.spatial.specs.Code.Site.{Placed}
+use Rattle.spatial.specs.declared.neighbours.read.NeighbourRead.{NeighbourRead}
+use Rattle.spatial.specs.declared.neighbours.want.Want.{Want}
+use Rattle.spatial.specs.neighbours.Neighbour.{readAt}
 use Rattle.stack.specs.declared.candidate.Candidate.{Candidate}
 use Rattle.stack.specs.declared.clamp.Reach.{Reach}
-use Rattle.stack.specs.Stack.{State, Found, live, view, raised}
-use Rattle.stack.specs.Numbers.{viewAt, countAt, Held}
+use Rattle.stack.specs.Stack.{State, raised}
+use Rattle.stack.specs.Code.Found.{Found, live, view}
+use Rattle.stack.specs.Code.Numbers.{viewAt, countAt, Held}
 use Rattle.stack.proofs.Adds.{how-many}
 use Rattle.stack.specs.Sort.{ordered, sorted}
 use Rattle.stack.specs.Clamp.{clamped}
@@ -39,19 +40,22 @@ use Rattle.temporal.specs.declared.aim.Aim.{Aim}
 use Rattle.temporal.specs.declared.aim.CellRead.{CellRead}
 use Rattle.temporal.specs.declared.sweep.Field.{Field}
 use Rattle.temporal.specs.Temporal.{cellRead}
-use Rattle.temporal.specs.Sweep.{Light}
-use Rattle.front.specs.declared.ask.Ask.{Ask}
-use Rattle.front.specs.Ask.{findFront, wantOf, globalOf, siteOf}
-use Rattle.front.specs.Context.{matchesOf, contextOf}
-use Rattle.extra.specs.Lists.{isRef}
-use Rattle.around.specs.Around as around
-use Rattle.around.specs.Around.{Lent, nearAll, farAll}
-use Rattle.front.proofs.Fronts.{Passed, site-placed, rows-inside, columns-inside}
+use Rattle.temporal.specs.Code.Sweep.{Light}
+use Rattle.search.specs.declared.front.ask.Ask.{Ask}
+use Rattle.search.specs.front.Ask.{findFront, wantOf, globalOf, siteOf}
+use Rattle.search.specs.front.Context.{matchesOf, contextOf}
+use Rattle.cells.specs.Cell.{isRef}
+use Rattle.spatial.specs.around.Around as around
+use Rattle.spatial.specs.Code.Around as code
+use Rattle.spatial.specs.Code.Around.{Lent}
+use Rattle.spatial.specs.around.Around.{nearAll, farAll}
+use Rattle.search.proofs.front.Fronts.{Passed, site-placed, rows-inside, columns-inside}
 use Rattle.search.specs.declared.find.Findings.{Findings}
 use Rattle.search.specs.declared.find.Nearest.{Nearest}
 use Rattle.search.specs.Parts.{aimOf, fieldOf, temporalWhere, zeroWhere}
 use Rattle.search.specs.Extend.{biasesOf, extraOf}
-use Rattle.search.specs.Find.{refused, got, finding, reachOf, concluded, timed, goneOn, searchOf, findOf, Past}
+use Rattle.search.specs.Find.{refused, got, reachOf, concluded, timed, goneOn, searchOf, findOf}
+use Rattle.search.specs.Code.Find.{finding, Past}
 
 -- what an answer makes of a search
 module _ (r : Findings) (s : Found) where
@@ -95,7 +99,7 @@ unfolding ordered
 ordered-min n s = rw (take-min n (s .cands), drop-min n (s .cands))
 
 -- from the sorted stack on
-module _ (read : ℕ → ℕ → Read) (f : Frame) (t : Tile) (a : Ask) (still count matched : ℕ) (newmv : Bool) (all : State) where
+module _ (read : ℕ → ℕ → NeighbourRead) (f : Frame) (t : Tile) (a : Ask) (still count matched : ℕ) (newmv : Bool) (all : State) where
   pub concludes-not : {n : ℕ} → extraOf read (siteOf t a) (biasesOf f) (a .refs) (globalOf a) (ordered count all) ≡ answered.refused n
       → concluded read f t a still count matched newmv all ≡ refused n
   unfolding concluded
@@ -107,7 +111,7 @@ module _ (read : ℕ → ℕ → Read) (f : Frame) (t : Tile) (a : Ask) (still c
   unfolding concluded
   concludes e = rw e
 
-module _ (read : ℕ → ℕ → Read) (cells : ℕ → CellRead) (f : Frame) (t : Tile) (a : Ask) where
+module _ (read : ℕ → ℕ → NeighbourRead) (cells : ℕ → CellRead) (f : Frame) (t : Tile) (a : Ask) where
   -- from the near neighbours on
   module _ (s : State) (above left : ℕ) where
     pub goes-not : {n : ℕ} → temporalWhere (timed f) cells (aimOf f a) (fieldOf (f .sizes) t (siteOf t a)) (siteOf t a) (raised 640 s) ≡ answered.refused n
@@ -137,8 +141,8 @@ module _ (read : ℕ → ℕ → Read) (cells : ℕ → CellRead) (f : Frame) (t
 
 -- a frame's sides in units of 4
 pub record Sided (f : Frame) : Type 0 where
-  pub high : f .sizes .ih4 .0 ≤ 4096
-  pub wide : f .sizes .iw4 .0 ≤ 4096
+  pub high : f .sizes .ih4 .0 ≤ mostUnits
+  pub wide : f .sizes .iw4 .0 ≤ mostUnits
 
 pub sided : (f : Frame) → wellFrame f ≡ true → Sided f
 sided f w =
@@ -163,7 +167,7 @@ module _ (l tl : List ℕ) (a : Ask) {z : Sizes} {b : Site} {nf nt nr : ℕ} (ze
   pub lends : {n : ℕ} → n ≡ records z → Lent nt nr n
   lends e = record { tile = p .tile; recs = omega (arith, p .listed, e, ap records sizes-are) }
 
-  pub reaching : (Placed b) × (b .row .end .0 ≤ z .ih4 .0) × (b .col .end .0 ≤ z .iw4 .0) × (z .ih4 .0 ≤ 4096) × (z .iw4 .0 ≤ 4096)
+  pub reaching : (Placed b) × (b .row .end .0 ≤ z .ih4 .0) × (b .col .end .0 ≤ z .iw4 .0) × (z .ih4 .0 ≤ mostUnits) × (z .iw4 .0 ≤ mostUnits)
   unfolding siteOf
   reaching =
       let s = sided (frameAt l) (p .well) in
@@ -185,7 +189,7 @@ abbrev nearestAt : List ℕ → Nearest
 nearestAt l = record { count = countAt l; matched = matchesOf (viewAt l); newmv = viewAt l .newmv }
 
 -- the end, from what was taken of the near neighbours
-pub taken : (read : ℕ → ℕ → Read) (f : Frame) (t : Tile) (a : Ask) (still : ℕ) (l : List ℕ) (all : State) {n : Nearest} → Held l → n ≡ nearestAt l
+pub taken : (read : ℕ → ℕ → NeighbourRead) (f : Frame) (t : Tile) (a : Ask) (still : ℕ) (l : List ℕ) (all : State) {n : Nearest} → Held l → n ≡ nearestAt l
     → concluded read f t a still (n .count) (n .matched) (n .newmv) all ≡ concluded read f t a still (length (viewAt l .cands)) (matchesOf (viewAt l)) (viewAt l .newmv) all
 taken read f t a still l all h e = rw (e, how-many l h)
 
@@ -193,7 +197,7 @@ taken read f t a still l all h e = rw (e, how-many l h)
 pub timed-light : {a b : ℕ} → b ≤ 1028 → a ≤ b + 5120 → Light 134 a
 timed-light h i = record { light = omega arith }
 
-pub far-light : {a b d : ℕ} → b ≤ 1028 → a ≤ b + 5120 → d ≤ a + 134 → around.Light d
+pub far-light : {a b d : ℕ} → b ≤ 1028 → a ≤ b + 5120 → d ≤ a + 134 → code.Light d
 far-light h i j = record { light = omega arith }
 
 -- the extra search that the code asked for
@@ -212,7 +216,7 @@ alike : {c d : ℕ} {k m : List Candidate} {v w : Mv} → c ≡ d → k ≡ m �
 alike p q r = rw (p, q, r)
 
 -- the end of an accepted search
-pub ends : (read : ℕ → ℕ → Read) (f : Frame) (t : Tile) (a : Ask) (still count matched : ℕ) (newmv : Bool) (all : State) (last found : Found) {c : ℕ} {v : Mv} {r : Reach}
+pub ends : (read : ℕ → ℕ → NeighbourRead) (f : Frame) (t : Tile) (a : Ask) (still count matched : ℕ) (newmv : Bool) (all : State) (last found : Found) {c : ℕ} {v : Mv} {r : Reach}
     → extraOf read (siteOf t a) (biasesOf f) (a .refs) (globalOf a) (ordered count all) ≡ answered.found (view last)
     → view found ≡ clamped r (view last) → r ≡ reachOf (f .sizes) (siteOf t a)
     → c ≡ contextOf (isRef (a .refs .second)) matched (matchesOf all) newmv still → v ≡ globalOf a .first
@@ -229,17 +233,17 @@ past p nf nt = record { frame = nf; tile = nt; well = p .well; asked = p .asked;
 
 -- The parts that the code asked for, as the definition has them.
 module _ (l tl : List ℕ) (a : Ask) {z : Sizes} {b : Site} (ze : z ≡ sizesAt l) (be : b ≡ siteOf (tileAt tl) a) where
-  module _ (proj : List ℕ) {fd : Field} {m : Aim} (fe : fd ≡ fieldOf z (tileAt tl) b) (me : m ≡ aimOf (frameAt l) a) where
+  module _ (proj : List ℕ) {fd : Field} {m : Aim} {on : Bool} (fe : fd ≡ fieldOf z (tileAt tl) b) (me : m ≡ aimOf (frameAt l) a) (oe : on ≡ timed (frameAt l)) where
     pub timed-asked : (u : State) {s : State} {o : answered.Outcome} → s ≡ raised 640 u
-        → o ≡ temporalWhere (not (eqb (getD l 48 0) 0)) (cellRead proj (fd .total)) m fd b s
+        → o ≡ temporalWhere on (cellRead proj (fd .total)) m fd b s
         → temporalWhere (timed (frameAt l)) (cellRead proj (projectedCells (frameAt l .sizes))) (aimOf (frameAt l) a) (fieldOf (frameAt l .sizes) (tileAt tl) (siteOf (tileAt tl) a)) (siteOf (tileAt tl) a) (raised 640 u) ≡ o
     unfolding frameAt fieldOf
-    timed-asked u se e = sym (rw (me, se, fe, be, ze) at e)
+    timed-asked u se e = sym (rw (me, se, fe, be, ze, oe) at e)
 
-    pub still-asked : {k : ℕ} → k ≡ zeroWhere (not (eqb (getD l 48 0) 0)) (cellRead proj (fd .total)) m fd (getD l 49 0)
+    pub still-asked : {k header : ℕ} → header ≡ frameAt l .temporal → k ≡ zeroWhere on (cellRead proj (fd .total)) m fd header
         → k ≡ zeroWhere (timed (frameAt l)) (cellRead proj (projectedCells (frameAt l .sizes))) (aimOf (frameAt l) a) (fieldOf (frameAt l .sizes) (tileAt tl) (siteOf (tileAt tl) a)) (frameAt l .temporal)
     unfolding frameAt fieldOf
-    still-asked e = rw (me, fe, be, ze) at e
+    still-asked he e = rw (me, fe, be, ze, oe, he) at e
 
   pub far-asked : (recs : List ℕ) (above left : ℕ) (s : State) {total : ℕ} {q : Want} {w : around.Went} → total ≡ records z → q ≡ wantOf a
       → w ≡ farAll (readAt (tileAt tl .rows) recs total) b above left q s

@@ -16,32 +16,34 @@ use Rattle.ground.proofs.Belows.{at}
 use Rattle.ground.proofs.Picks.{both}
 use Rattle.ground.proofs.Signs.{from-is, from-to-most}
 use Rattle.cells.specs.declared.cell.Ref.{Ref}
-use Rattle.extent.specs.declared.sizes.Sizes.{Sizes}
-use Rattle.hints.specs.declared.distances.RefHint.{RefHint}
+use Rattle.frame.specs.declared.extent.sizes.Sizes.{Sizes}
+use Rattle.frame.specs.declared.hints.distances.RefHint.{RefHint}
 use Rattle.frame.specs.declared.record.Frame.{Frame}
-use Rattle.hints.specs.Distances.{wellHint}
+use Rattle.frame.specs.hints.Distances.{wellHint}
 use Rattle.frame.specs.Mfmv.{noMfmv, wellMfmv}
 use Rattle.frame.specs.Record.{noHint, wellFrame}
-use Rattle.extent.specs.Sizes.{strideOf, wellSizes}
+use Rattle.frame.specs.extent.Sizes.{mostCells, strideOf, wellSizes}
 use Rattle.frame.proofs.Records.{frame-sizes}
-use Rattle.extent.proofs.Sizing.{fits, stride-most}
-use Rattle.rows.specs.declared.setup.Tile.{Tile}
+use Rattle.frame.proofs.extent.Sizing.{fits, stride-most}
+use Rattle.rows.specs.Setup.{Tile}
 use Rattle.layout.specs.FrameBytes.{sizesAt, frameAt}
 use Rattle.layout.specs.TileBytes.{tileAt}
-use Rattle.site.specs.declared.block.Site.{Site}
-use Rattle.site.specs.Site.{Placed}
+use Rattle.spatial.specs.declared.site.block.Site.{Site}
+use Rattle.spatial.specs.Code.Site.{Placed}
 use Rattle.temporal.specs.declared.aim.Aim.{Aim}
 use Rattle.temporal.specs.declared.aim.CellRead.{CellRead}
 use Rattle.temporal.specs.declared.aim.CellRead.the-variants.{Of, Absent, Refused}
 use Rattle.temporal.specs.declared.sweep.Field.{Field}
 use Rattle.temporal.specs.Temporal.{zeroOf, candidateOf, farOf}
-use Rattle.temporal.specs.Sweep.{Fielded}
-use Rattle.extra.specs.Lists.{isRef}
-use Rattle.front.specs.declared.ask.Ask.{Ask}
-use Rattle.front.specs.Ask.{siteOf}
-use Rattle.front.proofs.Contexts.{flag-most}
-use Rattle.front.proofs.Fronts.{Passed, site-placed, global-near}
-use Rattle.search.specs.Parts.{distanceTo, aimOf, fieldOf, TemporalRoom}
+use Rattle.temporal.specs.Code.Sweep.{Fielded}
+use Rattle.cells.specs.Cell.{isRef}
+use Rattle.search.specs.declared.front.ask.Ask.{Ask}
+use Rattle.search.specs.front.Ask.{siteOf}
+use Rattle.search.proofs.front.Contexts.{flag-most}
+use Rattle.search.proofs.front.Fronts.{Passed, site-placed, global-near}
+use Rattle.search.specs.Find.{timed}
+use Rattle.search.specs.Parts.{distanceTo, aimOf, fieldOf}
+use Rattle.search.specs.Code.Parts.{TemporalRoom}
 
 -- a reference has one of the seven hints
 ref-place : (r : Ref) → isRef r ≡ true → natAbs (r .0) - 1 < 7
@@ -64,7 +66,7 @@ frame-hints f w =
     both before hints (both (before && hints) (allBelow 3 (λ i. wellMfmv (getD (f .mfmvs) i noMfmv))) w .0) .1
 
 -- the header's flag is one
-header-flag : (f : Frame) → wellFrame f ≡ true → f .temporal ≤ 1
+pub header-flag : (f : Frame) → wellFrame f ≡ true → f .temporal ≤ 1
 unfolding wellFrame
 header-flag f w =
     let flags = wellSizes (f .sizes) && leb (f .«use_ref_frame_mvs») 1 in
@@ -89,10 +91,10 @@ unfolding tileAt
 proj-fits l g = omega (arith, g 148, g 149, g 150, g 151)
 
 -- the block's row of cells, of the 16 that a part has
-pub row-most : (z : Sizes) (y : ℕ) → wellSizes z ≡ true → y / 2 % 16 * z .stride ≤ 15 * 2048
+pub row-most : (z : Sizes) (y : ℕ) → wellSizes z ≡ true → y / 2 % 16 * z .stride .0 ≤ 15 * mostCells
 row-most z y w =
     let f = fits z w in
-    mul-le-mul {n₂ = 15} {m₂ = 2048} (omega arith) (omega (arith, f .stride, stride-most (z .width) (f .limits .width .fits)))
+    mul-le-mul {n₂ = 15} {m₂ = mostCells} (omega arith) (omega (arith, f .stride, stride-most (z .width) (f .limits .width .fits)))
 
 stride-some : (w : ℕ) → 1 ≤ w → 1 ≤ strideOf w
 unfolding strideOf
@@ -137,13 +139,9 @@ passed-room f t a nrecs nproj p h =
     }
 
 -- the same of what the code reads out of its bytes
-pub room : (l tl : List ℕ) (a : Ask) {nrecs nproj : ℕ} {z : Sizes} {b : Site} {fd : Field} {m : Aim}
-    → z ≡ sizesAt l → b ≡ siteOf (tileAt tl) a → fd ≡ fieldOf z (tileAt tl) b → m ≡ aimOf (frameAt l) a
+pub room : (l tl : List ℕ) (a : Ask) {nrecs nproj : ℕ} {z : Sizes} {b : Site} {fd : Field} {m : Aim} {on : Bool}
+    → z ≡ sizesAt l → b ≡ siteOf (tileAt tl) a → fd ≡ fieldOf z (tileAt tl) b → m ≡ aimOf (frameAt l) a → on ≡ timed (frameAt l)
     → Passed (frameAt l) (tileAt tl) a nrecs nproj → tileAt tl .proj < 2 ^ 32
-    → TemporalRoom (not (eqb (getD l 48 0) 0)) nproj fd b m
+    → TemporalRoom on nproj fd b m
 unfolding frameAt
-room l tl a ze be fe me p h = rw (me, fe, be, ze) (passed-room (frameAt l) (tileAt tl) a _ _ p h)
-
-pub header-byte : (l : List ℕ) → wellFrame (frameAt l) ≡ true → getD l 49 0 ≤ 1
-unfolding frameAt
-header-byte l w = header-flag (frameAt l) w
+room l tl a ze be fe me oe p h = rw (me, fe, be, ze, oe) (passed-room (frameAt l) (tileAt tl) a _ _ p h)

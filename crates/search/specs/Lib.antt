@@ -2,3 +2,8 @@
 pub mod Parts
 pub mod Extend
 pub mod Find
+pub mod extra
+pub mod front
+pub mod lent_bytes
+pub mod candidates
+pub mod Code

@@ -1,30 +1,27 @@
 -- The temporal part of a search: 7.10.2.5 and 7.10.2.6 with the frame's distances and the block's place in the projection.
 use Prim.Native.Nat.{ℕ, _+_, _-_, _*_, _/_, _%_}
-use mathlib.Core.Path.{_≡_}
-use mathlib.Core.Bool.{Bool, true}
+use mathlib.Core.Bool.{Bool}
 use lib.Dec.{eqb}
 use lib.IntN.{ℤ, pos, natAbs}
 use lib.ListN.{getD}
 use Rattle.ground.specs.Pick.{pick}
-use Rattle.vector.specs.Vector.{Within}
 use Rattle.cells.specs.declared.cell.Ref.{Ref}
-use Rattle.extent.specs.declared.sizes.Sizes.{Sizes}
+use Rattle.frame.specs.declared.extent.sizes.Sizes.{Sizes}
 use Rattle.frame.specs.declared.record.Frame.{Frame}
 use Rattle.frame.specs.Record.{noHint}
-use Rattle.extent.specs.Sizes.{projectedCells}
-use Rattle.rows.specs.declared.setup.Tile.{Tile}
-use Rattle.site.specs.declared.block.Site.{Site}
-use Rattle.site.specs.Site.{Placed}
+use Rattle.frame.specs.extent.Sizes.{projectedCells}
+use Rattle.rows.specs.Setup.{Tile}
+use Rattle.spatial.specs.declared.site.block.Site.{Site}
 use Rattle.stack.specs.Stack.{State}
 use Rattle.stack.specs.Answered.{Outcome, found}
 use Rattle.temporal.specs.declared.aim.Aim.{Aim}
 use Rattle.temporal.specs.declared.aim.CellRead.{CellRead}
 use Rattle.temporal.specs.declared.sweep.Field.{Field}
 use Rattle.temporal.specs.Temporal.{zeroOf}
-use Rattle.temporal.specs.Sweep.{temporalOf, Near, Fielded}
-use Rattle.extra.specs.Lists.{isRef}
-use Rattle.front.specs.declared.ask.Ask.{Ask}
-use Rattle.front.specs.Ask.{globalOf}
+use Rattle.temporal.specs.Sweep.{temporalOf}
+use Rattle.cells.specs.Cell.{isRef}
+use Rattle.search.specs.declared.front.ask.Ask.{Ask}
+use Rattle.search.specs.front.Ask.{globalOf}
 
 -- the distance from a reference to the current frame, which the frame record holds to 31 either way
 unfoldable pub distanceTo : Frame → Ref → ℤ
@@ -44,17 +41,10 @@ aimOf f a =
 -- a row of the projection for each row of cells, modulo 16, in the tile row's part
 unfoldable pub fieldOf : Sizes → Tile → Site → Field
 fieldOf z t b =
-    record { first = t .proj + b .y .0 / 2 % 16 * z .stride + b .x .0 / 2; stride = z .stride; total = projectedCells z }
+    record { first = t .proj + b .y .0 / 2 % 16 * z .stride .0 + b .x .0 / 2; stride = z .stride; total = projectedCells z }
 
 unfoldable pub temporalWhere : Bool → (ℕ → CellRead) → Aim → Field → Site → State → Outcome
 temporalWhere on cells a f b s = pick on (temporalOf cells a f b s) (found s)
 
 unfoldable pub zeroWhere : Bool → (ℕ → CellRead) → Aim → Field → ℕ → ℕ
 zeroWhere on cells a f header = pick on (zeroOf a header (cells (f .first))) header
-
--- What the front of a search shows: with temporal search off, nothing is asked of the projection.
-pub record TemporalRoom (on : Bool) (nproj : ℕ) (f : Field) (b : Site) (a : Aim) : Type 0 where
-  pub near : on ≡ true → Near nproj (f .total) a
-  pub field : Fielded f
-  pub placed : Placed b
-  pub global : Within 16383 (a .gmv)

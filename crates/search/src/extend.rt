@@ -1,36 +1,35 @@
 // The extra search over a block's two sides.
-use around::lines::near_line;
+use crate::extra::pool::Pools;
+use crate::extra::pool::complete;
+use crate::extra::pool::first_pair;
+use crate::extra::pool::no_pools;
+use crate::extra::pool::second_pair;
+use crate::extra::walk::Pooled;
+use crate::extra::walk::compound_along;
+use crate::extra::walk::single_along;
 use cells::block::MvPair;
 use cells::block::RefPair;
 use cells::cell::Ref;
-use extra::lists::is_ref;
-use extra::pool::Pools;
-use extra::pool::complete;
-use extra::pool::first_pair;
-use extra::pool::no_pools;
-use extra::pool::second_pair;
-use extra::walk::Pooled;
-use extra::walk::compound_along;
-use extra::walk::single_along;
+use cells::pos::Pos4;
+use ground::bound::least;
 use layout::frame_bytes::hint_in;
-use rows::setup::lesser;
-use site::block::Site;
+use spatial::around::lines::near_line;
+use spatial::site::block::Site;
 use stack::numbers::count_in;
 ghost use mathlib.Core.Path.{_≡_};
 ghost use mathlib.Core.Bool.{true};
 ghost use Prim.Native.Nat.{_≤_, _<_};
 ghost use lib.ListN.{length};
-ghost use Rattle.around.specs.Around.{Lent};
-ghost use Rattle.extra.specs.Lists.{isRef};
-ghost use Rattle.extra.specs.Pool.{poolsOf};
-ghost use Rattle.extra.specs.Walk.{pooled};
+ghost use Rattle.spatial.specs.Code.Around.{Lent};
+ghost use Rattle.cells.specs.Cell.{isRef};
+ghost use Rattle.search.specs.Code.Pool.{poolsOf};
+ghost use Rattle.search.specs.Code.Walk.{pooled};
 ghost use Rattle.layout.specs.FrameBytes.{frameAt};
-ghost use Rattle.layout.specs.TileBytes.{tileAt};
-ghost use Rattle.neighbours.specs.Neighbour.{readAt};
-ghost use Rattle.site.specs.Site.{Placed};
-ghost use Rattle.stack.specs.Numbers.{foundAt, viewAt, countAt, Held};
-ghost use Rattle.stack.specs.Answered.{outcome};
+ghost use Rattle.spatial.specs.Code.Site.{Placed};
+ghost use Rattle.stack.specs.Code.Numbers.{foundAt, viewAt, countAt, Held};
+ghost use Rattle.stack.specs.Code.Found.{outcome};
 ghost use Rattle.search.specs.Extend.{biasAt, biasesOf, extraLimit, singleWhere, singleExtra, compoundWhere, compoundExtra, extraOf};
+ghost use Rattle.spatial.specs.Code.Neighbour.{readIn};
 
 fn bias_at(frame: &[u8], i: usize) -> u8
     requires { ⌜ (109 ≤ length (now frame)) × (i < 7) ⌝ }
@@ -56,11 +55,11 @@ fn biases_of(frame: &[u8]) -> [u8; 7]
 }
 
 // Neither side is looked along farther than the other.
-fn extra_limit(b: Site) -> usize
+fn extra_limit(b: Site) -> Pos4
     requires { ⌜ Placed b ⌝ }
-    ensures { λ r. ⌜ (r ≡ extraLimit b) × (r ≤ 16) ⌝ }
+    ensures { λ r. ⌜ (r .0 ≡ extraLimit b) × (r .0 ≤ 16) ⌝ }
 {
-    lesser(b.limit(false), b.limit(true))
+    Pos4(least(b.limit(false).0, b.limit(true).0))
 }
 
 // One side of a single search; nothing at the tile's edge.
@@ -74,9 +73,11 @@ fn single_where(
     r: Ref,
     s: &mut [u64],
 ) -> u8
-    requires { ⌜ Lent (length (now tile)) (length (now recs)) total × Placed b × (length (now biases) ≡ 7) × (isRef r ≡ true) × Held (now s) × (countAt (now s) ≤ 3) ⌝ }
+    requires { ⌜ Lent (length (now tile)) (length (now recs)) total × Placed b × (length (now biases) ≡ 7)
+        × (isRef r ≡ true) × Held (now s) × (countAt (now s) ≤ 3) ⌝ }
     ensures { λ a. ⌜ Held (now (s .exit)) × (countAt (now (s .exit)) ≤ 3) ⌝ }
-    ensures { λ a. ⌜ outcome a (foundAt (now (s .exit))) ≡ singleWhere (readAt (tileAt (now (tile .entry)) .rows) (now (recs .entry)) total) b down (now (biases .entry)) r (viewAt (now (s .entry))) ⌝ }
+    ensures { λ a. ⌜ outcome a (foundAt (now (s .exit)))
+        ≡ singleWhere (readIn (now (tile .entry)) (now (recs .entry)) total) b down (now (biases .entry)) r (viewAt (now (s .entry))) ⌝ }
 {
     if b.depth(down) == 0 {
         return 0;
@@ -95,9 +96,11 @@ fn single_extra(
     r: Ref,
     s: &mut [u64],
 ) -> u8
-    requires { ⌜ Lent (length (now tile)) (length (now recs)) total × Placed b × (length (now biases) ≡ 7) × (isRef r ≡ true) × Held (now s) × (countAt (now s) < 2) ⌝ }
+    requires { ⌜ Lent (length (now tile)) (length (now recs)) total × Placed b × (length (now biases) ≡ 7)
+        × (isRef r ≡ true) × Held (now s) × (countAt (now s) < 2) ⌝ }
     ensures { λ a. ⌜ Held (now (s .exit)) × (countAt (now (s .exit)) ≤ 3) ⌝ }
-    ensures { λ a. ⌜ outcome a (foundAt (now (s .exit))) ≡ singleExtra (readAt (tileAt (now (tile .entry)) .rows) (now (recs .entry)) total) b (now (biases .entry)) r (viewAt (now (s .entry))) ⌝ }
+    ensures { λ a. ⌜ outcome a (foundAt (now (s .exit)))
+        ≡ singleExtra (readIn (now (tile .entry)) (now (recs .entry)) total) b (now (biases .entry)) r (viewAt (now (s .entry))) ⌝ }
 {
     let above = single_where(tile, recs, total, b, false, biases, r, s);
     if above != 0 {
@@ -116,8 +119,9 @@ fn compound_where(
     refs: RefPair,
     p: Pools,
 ) -> Pooled
-    requires { ⌜ Lent (length (now tile)) (length (now recs)) total × Placed b × (length (now biases) ≡ 7) × (isRef (refs .first) ≡ true) × (isRef (refs .second) ≡ true) ⌝ }
-    ensures { λ a. ⌜ pooled a ≡ compoundWhere (readAt (tileAt (now (tile .entry)) .rows) (now (recs .entry)) total) b down (now (biases .entry)) refs (poolsOf p) ⌝ }
+    requires { ⌜ Lent (length (now tile)) (length (now recs)) total × Placed b × (length (now biases) ≡ 7)
+        × (isRef (refs .first) ≡ true) × (isRef (refs .second) ≡ true) ⌝ }
+    ensures { λ a. ⌜ pooled a ≡ compoundWhere (readIn (now (tile .entry)) (now (recs .entry)) total) b down (now (biases .entry)) refs (poolsOf p) ⌝ }
 {
     if b.depth(down) == 0 {
         return Pooled {
@@ -149,9 +153,11 @@ fn compound_extra(
     g: MvPair,
     s: &mut [u64],
 ) -> u8
-    requires { ⌜ Lent (length (now tile)) (length (now recs)) total × Placed b × (length (now biases) ≡ 7) × (isRef (refs .first) ≡ true) × (isRef (refs .second) ≡ true) × Held (now s) × (countAt (now s) < 2) ⌝ }
+    requires { ⌜ Lent (length (now tile)) (length (now recs)) total × Placed b × (length (now biases) ≡ 7)
+        × (isRef (refs .first) ≡ true) × (isRef (refs .second) ≡ true) × Held (now s) × (countAt (now s) < 2) ⌝ }
     ensures { λ a. ⌜ Held (now (s .exit)) × (countAt (now (s .exit)) ≤ 3) ⌝ }
-    ensures { λ a. ⌜ outcome a (foundAt (now (s .exit))) ≡ compoundExtra (readAt (tileAt (now (tile .entry)) .rows) (now (recs .entry)) total) b (now (biases .entry)) refs g (viewAt (now (s .entry))) ⌝ }
+    ensures { λ a. ⌜ outcome a (foundAt (now (s .exit)))
+        ≡ compoundExtra (readIn (now (tile .entry)) (now (recs .entry)) total) b (now (biases .entry)) refs g (viewAt (now (s .entry))) ⌝ }
 {
     let above = compound_where(tile, recs, total, b, false, biases, refs, no_pools());
     if above.answer != 0 {
@@ -181,16 +187,17 @@ pub(crate) fn extend(
 ) -> u8
     requires { ⌜ Lent (length (now tile)) (length (now recs)) total × Placed b × (109 ≤ length (now frame)) × Held (now s) ⌝ }
     ensures { λ a. ⌜ Held (now (s .exit)) ⌝ }
-    ensures { λ a. ⌜ outcome a (foundAt (now (s .exit))) ≡ extraOf (readAt (tileAt (now (tile .entry)) .rows) (now (recs .entry)) total) b (biasesOf (frameAt (now (frame .entry)))) refs g (viewAt (now (s .entry))) ⌝ }
+    ensures { λ a. ⌜ outcome a (foundAt (now (s .exit)))
+        ≡ extraOf (readIn (now (tile .entry)) (now (recs .entry)) total) b (biasesOf (frameAt (now (frame .entry)))) refs g (viewAt (now (s .entry))) ⌝ }
 {
     if 2 <= count_in(s) {
         return 0;
     }
-    if !is_ref(refs.first) {
+    if !refs.first.is_ref() {
         return 0;
     }
     let biases = biases_of(frame);
-    if is_ref(refs.second) {
+    if refs.second.is_ref() {
         return compound_extra(tile, recs, total, b, &biases, refs, g, s);
     }
     single_extra(tile, recs, total, b, &biases, refs.first, s)

@@ -1,24 +1,25 @@
 // The search from its front to its answer.
 use crate::extend::extend;
+use crate::front::ask::Ask;
+use crate::front::ask::find_front;
+use crate::front::ask::global_of;
+use crate::front::ask::site_of;
+use crate::front::ask::want_of;
+use crate::front::context::context_of;
+use crate::front::context::matches;
 use crate::parts::aim_of;
 use crate::parts::field_of;
 use crate::parts::temporal_where;
 use crate::parts::zero_where;
-use around::far::far;
-use around::near::Around;
-use around::near::near;
-use extent::sizes::Sizes;
-use extra::lists::is_ref;
-use front::ask::Ask;
-use front::ask::admit;
-use front::ask::global_of;
-use front::ask::site_of;
-use front::ask::want_of;
-use front::context::context_of;
-use front::context::matches;
+use frame::extent::sizes::Sizes;
+use ground::bound::least;
 use layout::frame_bytes::sizes_at;
-use rows::setup::lesser;
-use site::block::Site;
+use layout::frame_bytes::temporal_in;
+use layout::frame_bytes::use_ref_frame_mvs_in;
+use spatial::around::far::far;
+use spatial::around::near::Around;
+use spatial::around::near::near;
+use spatial::site::block::Site;
 use stack::add::REF_CAT_LEVEL;
 use stack::add::raise;
 use stack::clamp::Reach;
@@ -31,16 +32,16 @@ use vector::mv::Mv;
 ghost use mathlib.Core.Path.{_≡_};
 ghost use Prim.Native.Nat.{_≤_};
 ghost use lib.ListN.{length};
-ghost use Rattle.extent.specs.Sizes.{records, projectedCells};
+ghost use Rattle.frame.specs.extent.Sizes.{mostUnits, records};
 ghost use Rattle.layout.specs.FrameBytes.{frameAt};
 ghost use Rattle.layout.specs.TileBytes.{tileAt};
-ghost use Rattle.neighbours.specs.Neighbour.{readAt};
-ghost use Rattle.site.specs.Site.{Placed};
-ghost use Rattle.stack.specs.Numbers.{foundAt, viewAt, heftAt, countAt, Held};
-ghost use Rattle.temporal.specs.Temporal.{cellRead};
-ghost use Rattle.front.specs.Ask.{findFront};
-ghost use Rattle.front.specs.Context.{matchesOf};
-ghost use Rattle.search.specs.Find.{finding, reachOf, concluded, goneOn, findOf, Past};
+ghost use Rattle.spatial.specs.Code.Site.{Placed};
+ghost use Rattle.stack.specs.Code.Numbers.{foundAt, viewAt, heftAt, countAt, Held};
+ghost use Rattle.search.specs.front.Ask.{findFront};
+ghost use Rattle.search.specs.front.Context.{matchesOf};
+ghost use Rattle.search.specs.Code.Find.{finding, Past};
+ghost use Rattle.search.specs.Find.{reachOf, concluded, timed, goneOn, findOf};
+ghost use Rattle.search.specs.Code.Bytes.{listedIn, cellsIn};
 
 // answer is 0, or a refusal, and then nothing is meant by the others, nor by what was found. fill stands for the slots below
 // two that a single search leaves empty.
@@ -72,7 +73,7 @@ fn refuse(answer: u8) -> Findings
 
 // Four units past the block's far side, and as far past the frame's.
 fn reach_of(z: Sizes, b: Site) -> Reach
-    requires { ⌜ Placed b × (b .row .end .0 ≤ z .ih4 .0) × (b .col .end .0 ≤ z .iw4 .0) × (z .ih4 .0 ≤ 4096) × (z .iw4 .0 ≤ 4096) ⌝ }
+    requires { ⌜ Placed b × (b .row .end .0 ≤ z .ih4 .0) × (b .col .end .0 ≤ z .iw4 .0) × (z .ih4 .0 ≤ mostUnits) × (z .iw4 .0 ≤ mostUnits) ⌝ }
     ensures { λ r. ⌜ r ≡ reachOf z b ⌝ }
 {
     let y = b.y.0;
@@ -87,7 +88,8 @@ fn reach_of(z: Sizes, b: Site) -> Reach
 
 fn take_nearest(s: &[u64]) -> Nearest
     requires { ⌜ length (now s) ≡ 20 ⌝ }
-    ensures { λ n. ⌜ (n ≡ record { count = countAt (now (s .entry)); matched = matchesOf (viewAt (now (s .entry))); newmv = viewAt (now (s .entry)) .newmv }) × (n .matched ≤ 2) ⌝ }
+    ensures { λ n. ⌜ (n ≡ record { count = countAt (now (s .entry)); matched = matchesOf (viewAt (now (s .entry))); newmv = viewAt (now (s .entry)) .newmv })
+        × (n .matched ≤ 2) ⌝ }
 {
     Nearest {
         count: count_in(s),
@@ -106,9 +108,13 @@ fn conclude(
     near: Nearest,
     s: &mut [u64],
 ) -> Findings
-    requires { ⌜ Past (frameAt (now frame)) (tileAt (now tile)) a (length (now frame)) (length (now tile)) (length (now recs)) × (zero ≤ 1) × (near .matched ≤ 2) × Held (now s) ⌝ }
+    requires { ⌜ Past (frameAt (now frame)) (tileAt (now tile)) a (length (now frame)) (length (now tile)) (length (now recs))
+        × (zero ≤ 1) × (near .matched ≤ 2) × Held (now s) ⌝ }
     ensures { λ _. ⌜ Held (now (s .exit)) ⌝ }
-    ensures { λ r. ⌜ finding r (foundAt (now (s .exit))) ≡ concluded (readAt (tileAt (now (tile .entry)) .rows) (now (recs .entry)) (records (frameAt (now (frame .entry)) .sizes))) (frameAt (now (frame .entry))) (tileAt (now (tile .entry))) a zero (near .count) (near .matched) (near .newmv) (viewAt (now (s .entry))) ⌝ }
+    ensures { λ r. ⌜ finding r (foundAt (now (s .exit)))
+        ≡ concluded (listedIn (now (frame .entry)) (now (tile .entry)) (now (recs .entry)))
+        (frameAt (now (frame .entry))) (tileAt (now (tile .entry))) a zero (near .count) (near .matched) (near .newmv)
+        (viewAt (now (s .entry))) ⌝ }
 {
     let z = sizes_at(frame);
     let b = site_of(tile, a);
@@ -116,19 +122,28 @@ fn conclude(
     let global = global_of(a);
     let matched = matches(s);
     // The stack only grows: the near candidates are no more than all of them.
-    sort_parts(s, lesser(near.count, count_in(s)));
+    sort_parts(s, least(near.count, count_in(s)));
     let last = extend(frame, tile, recs, z.records(), b, refs, global, s);
     if last != 0 {
         return refuse(last);
     }
     clamp(s, reach_of(z, b));
-    let context = context_of(is_ref(refs.second), near.matched, matched, near.newmv, zero);
+    let compound = refs.second.is_ref();
+    let context = context_of(compound, near.matched, matched, near.newmv, zero);
     let fill = global.first;
     Findings {
         answer: 0,
         context,
         fill,
     }
+}
+
+// Whether temporal search is on.
+fn is_timed(frame: &[u8]) -> bool
+    requires { ⌜ 109 ≤ length (now frame) ⌝ }
+    ensures { λ r. ⌜ r ≡ timed (frameAt (now (frame .entry))) ⌝ }
+{
+    use_ref_frame_mvs_in(frame) != 0
 }
 
 // From the near neighbours on: the projection, then what lies farther off.
@@ -141,14 +156,19 @@ fn go_on(
     n: Around,
     s: &mut [u64],
 ) -> Findings
-    requires { ⌜ (findFront (frameAt (now frame)) (tileAt (now tile)) a (length (now recs)) (length (now proj)) ≡ 0) × (109 ≤ length (now frame)) × (168 ≤ length (now tile)) × (n .answer ≡ 0) × Held (now s) × (heftAt (now s) ≤ 1028) × (n .above ≤ 16) × (n .left ≤ 16) ⌝ }
+    requires { ⌜ (findFront (frameAt (now frame)) (tileAt (now tile)) a (length (now recs)) (length (now proj)) ≡ 0)
+        × (109 ≤ length (now frame)) × (168 ≤ length (now tile)) × (n .answer ≡ 0) × Held (now s)
+        × (heftAt (now s) ≤ 1028) × (n .above ≤ 16) × (n .left ≤ 16) ⌝ }
     ensures { λ _. ⌜ Held (now (s .exit)) ⌝ }
-    ensures { λ r. ⌜ finding r (foundAt (now (s .exit))) ≡ goneOn (readAt (tileAt (now (tile .entry)) .rows) (now (recs .entry)) (records (frameAt (now (frame .entry)) .sizes))) (cellRead (now (proj .entry)) (projectedCells (frameAt (now (frame .entry)) .sizes))) (frameAt (now (frame .entry))) (tileAt (now (tile .entry))) a (viewAt (now (s .entry))) (n .above) (n .left) ⌝ }
+    ensures { λ r. ⌜ finding r (foundAt (now (s .exit)))
+        ≡ goneOn (listedIn (now (frame .entry)) (now (tile .entry)) (now (recs .entry)))
+        (cellsIn (now (frame .entry)) (now (proj .entry))) (frameAt (now (frame .entry))) (tileAt (now (tile .entry))) a
+        (viewAt (now (s .entry))) (n .above) (n .left) ⌝ }
 {
     let z = sizes_at(frame);
     let b = site_of(tile, a);
-    let on = frame[48] != 0;
-    let header = frame[49];
+    let on = is_timed(frame);
+    let header = temporal_in(frame);
     let aim = aim_of(frame, a);
     let f = field_of(z, tile, b);
     let first = take_nearest(s);
@@ -169,9 +189,10 @@ fn go_on(
 pub fn find(frame: &[u8], tile: &[u8], recs: &[u8], proj: &[u8], a: Ask, s: &mut [u64]) -> Findings
     requires { ⌜ (109 ≤ length (now frame)) × (168 ≤ length (now tile)) × (length (now s) ≡ 20) ⌝ }
     ensures { λ r. ⌜ ((r .answer ≡ 0) → Held (now (s .exit))) ⌝ }
-    ensures { λ r. ⌜ finding r (foundAt (now (s .exit))) ≡ findOf (frameAt (now (frame .entry))) (tileAt (now (tile .entry))) (now (recs .entry)) (now (proj .entry)) a ⌝ }
+    ensures { λ r. ⌜ finding r (foundAt (now (s .exit)))
+        ≡ findOf (frameAt (now (frame .entry))) (tileAt (now (tile .entry))) (now (recs .entry)) (now (proj .entry)) a ⌝ }
 {
-    let front = admit(frame, tile, a, recs.len(), proj.len());
+    let front = find_front(frame, tile, a, recs.len(), proj.len());
     if front != 0 {
         return refuse(front);
     }

@@ -1,12 +1,11 @@
 // The temporal part of a search: the block's place in the projection, and where its cells are aimed.
+use crate::front::ask::Ask;
+use crate::front::ask::global_of;
 use cells::cell::Ref;
-use extent::sizes::Sizes;
-use extra::lists::is_ref;
-use front::ask::Ask;
-use front::ask::global_of;
+use frame::extent::sizes::Sizes;
 use layout::frame_bytes::hint_in;
 use layout::tile_bytes::proj_in;
-use site::block::Site;
+use spatial::site::block::Site;
 use temporal::aim::Aim;
 use temporal::aim::zero_context;
 use temporal::sweep::Field;
@@ -15,22 +14,23 @@ ghost use mathlib.Core.Path.{_≡_};
 ghost use mathlib.Core.Bool.{true};
 ghost use Prim.Native.Nat.{_+_, _≤_};
 ghost use lib.ListN.{length};
-ghost use Rattle.extent.specs.Sizes.{wellSizes};
+ghost use Rattle.frame.specs.extent.Sizes.{wellSizes};
 ghost use Rattle.layout.specs.FrameBytes.{frameAt};
 ghost use Rattle.layout.specs.TileBytes.{tileAt};
-ghost use Rattle.site.specs.Site.{Placed};
-ghost use Rattle.stack.specs.Numbers.{foundAt, viewAt, heftAt, Held};
-ghost use Rattle.stack.specs.Answered.{outcome};
+ghost use Rattle.spatial.specs.Code.Site.{Placed};
+ghost use Rattle.stack.specs.Code.Numbers.{foundAt, viewAt, heftAt, Held};
+ghost use Rattle.stack.specs.Code.Found.{outcome};
 ghost use Rattle.temporal.specs.Temporal.{cellRead};
-ghost use Rattle.temporal.specs.Sweep.{Light};
-ghost use Rattle.search.specs.Parts.{distanceTo, aimOf, fieldOf, temporalWhere, zeroWhere, TemporalRoom};
+ghost use Rattle.temporal.specs.Code.Sweep.{Light};
+ghost use Rattle.search.specs.Parts.{distanceTo, aimOf, fieldOf, temporalWhere, zeroWhere};
+ghost use Rattle.search.specs.Code.Parts.{TemporalRoom};
 
 // How far the current frame lies from a reference; 0 without one.
 fn distance_to(frame: &[u8], r: Ref) -> i16
     requires { ⌜ 109 ≤ length (now frame) ⌝ }
     ensures { λ z. ⌜ z ≡ distanceTo (frameAt (now (frame .entry))) r ⌝ }
 {
-    if is_ref(r) {
+    if r.is_ref() {
         let hint = hint_in(frame, r.place());
         return hint.pocdiff;
     }
@@ -45,7 +45,7 @@ pub(crate) fn aim_of(frame: &[u8], a: Ask) -> Aim
     let global = global_of(a);
     let gmv = global.first;
     Aim {
-        compound: is_ref(refs.second),
+        compound: refs.second.is_ref(),
         first: distance_to(frame, refs.first),
         second: distance_to(frame, refs.second),
         integer: a.integer == 1,
@@ -59,9 +59,10 @@ pub(crate) fn field_of(z: Sizes, tile: &[u8], b: Site) -> Field
     requires { ⌜ (168 ≤ length (now tile)) × (wellSizes z ≡ true) × Placed b ⌝ }
     ensures { λ f. ⌜ f ≡ fieldOf z (tileAt (now (tile .entry))) b ⌝ }
 {
+    let stride = z.stride;
     Field {
-        first: proj_in(tile) + b.y.0 / 2 % 16 * z.stride + b.x.0 / 2,
-        stride: z.stride,
+        first: proj_in(tile) + b.y.halved().0 % 16 * stride.0 + b.x.halved().0,
+        stride,
         total: z.projected_cells(),
     }
 }

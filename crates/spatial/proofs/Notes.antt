@@ -8,14 +8,16 @@ use lib.ListN.{length}
 use Rattle.ground.specs.Pick.{pick}
 use Rattle.cells.specs.declared.block.Block.{Block}
 use Rattle.cells.specs.declared.block.MvPair.{MvPair}
-use Rattle.stack.specs.Stack.{State, Found, live, view, heft, joined}
-use Rattle.stack.specs.Numbers.{flagged, foundAt, viewAt, heftAt, Held}
+use Rattle.stack.specs.Stack.{State, joined}
+use Rattle.stack.specs.Code.Found.{Found, live, view, heft}
+use Rattle.stack.specs.Code.Numbers.{flagged, foundAt, viewAt, heftAt, Held}
 use Rattle.stack.specs.declared.numbers.Flag.the-variants.{NewMv}
-use Rattle.neighbours.specs.declared.want.Want.{Want}
-use Rattle.neighbours.specs.declared.want.Offer.{Offer}
-use Rattle.neighbours.specs.declared.want.Offer.the-variants.{Nothing, Pair}
-use Rattle.neighbours.specs.Want.{offerOf}
-use Rattle.spatial.specs.Take.{newMode, noted, spatial, modeFlag, sideFlag}
+use Rattle.spatial.specs.declared.neighbours.want.Want.{Want}
+use Rattle.spatial.specs.declared.neighbours.want.Offer.{Offer}
+use Rattle.spatial.specs.declared.neighbours.want.Offer.the-variants.{Nothing, Pair}
+use Rattle.spatial.specs.neighbours.Want.{offerOf}
+use Rattle.spatial.specs.Take.{newMode, noted, spatial}
+use Rattle.spatial.specs.Code.Take.{modeFlag, sideFlag}
 
 -- both flags, one after the other: the candidates stay
 flags : (down : Bool) (mf : ℕ) (s : Found)

@@ -3,14 +3,11 @@ use Prim.Native.Nat.{ℕ}
 use mathlib.Core.Bool.{Bool, _||_, not}
 use lib.Dec.{leb}
 use Rattle.cells.specs.declared.block.Block.{Block}
-use Rattle.neighbours.specs.declared.want.Want.{Want}
-use Rattle.neighbours.specs.declared.want.Offer.{Offer}
-use Rattle.neighbours.specs.declared.want.Offer.the-variants.{Nothing, Pair}
-use Rattle.neighbours.specs.Want.{offerOf}
-use Rattle.ground.specs.Pick.{pick}
-use Rattle.stack.specs.Stack.{State, Found, joined}
-use Rattle.stack.specs.Numbers.{flagged}
-use Rattle.stack.specs.declared.numbers.Flag.the-variants.{NewMv, Above, Left}
+use Rattle.spatial.specs.declared.neighbours.want.Want.{Want}
+use Rattle.spatial.specs.declared.neighbours.want.Offer.{Offer}
+use Rattle.spatial.specs.declared.neighbours.want.Offer.the-variants.{Nothing, Pair}
+use Rattle.spatial.specs.neighbours.Want.{offerOf}
+use Rattle.stack.specs.Stack.{State, joined}
 
 -- the block's mode has a new vector: bit 1 of mf
 abbrev pub newMode : ℕ → Bool
@@ -27,10 +24,3 @@ taken down w mf s (Pair p) = noted down mf (joined s p w)
 
 unfoldable pub spatial : Bool → ℕ → Block → Want → State → State
 spatial down w k q s = taken down w (k .mf) s (offerOf k q)
-
--- How the code notes it, one flag after the other.
-abbrev pub modeFlag : ℕ → Found → Found
-modeFlag mf s = pick (newMode mf) (flagged NewMv s) s
-
-abbrev pub sideFlag : Bool → Found → Found
-sideFlag down s = pick down (flagged Left s) (flagged Above s)

@@ -1,16 +1,17 @@
 // What a matching neighbour does to what a search has found.
+use crate::neighbours::want::Offer;
+use crate::neighbours::want::Want;
+use crate::neighbours::want::offered;
 use cells::block::Block;
-use neighbours::want::Offer;
-use neighbours::want::Want;
-use neighbours::want::offered;
 use stack::add::add;
 use stack::numbers::Flag;
 use stack::numbers::put_flag;
 ghost use mathlib.Core.Path.{_≡_};
 ghost use Prim.Native.Nat.{_+_, _≤_, _<_, _^_};
 ghost use lib.ListN.{length};
-ghost use Rattle.stack.specs.Numbers.{foundAt, viewAt, heftAt, Held};
-ghost use Rattle.spatial.specs.Take.{spatial, modeFlag, sideFlag};
+ghost use Rattle.stack.specs.Code.Numbers.{foundAt, viewAt, heftAt, Held};
+ghost use Rattle.spatial.specs.Take.{spatial};
+ghost use Rattle.spatial.specs.Code.Take.{modeFlag, sideFlag};
 
 fn note_mode(s: &mut [u64], mf: u8)
     requires { ⌜ length (now s) ≡ 20 ⌝ }
@@ -35,7 +36,8 @@ fn note_side(s: &mut [u64], down: bool)
 
 pub fn add_spatial(s: &mut [u64], w: u64, k: Block, q: Want, down: bool)
     requires { ⌜ Held (now s) × (heftAt (now s) + w < 2 ^ 32) ⌝ }
-    ensures { λ _. ⌜ Held (now (s .exit)) × (viewAt (now (s .exit)) ≡ spatial down w k q (viewAt (now (s .entry)))) × (heftAt (now (s .exit)) ≤ heftAt (now (s .entry)) + w) ⌝ }
+    ensures { λ _. ⌜ Held (now (s .exit)) × (viewAt (now (s .exit)) ≡ spatial down w k q (viewAt (now (s .entry))))
+        × (heftAt (now (s .exit)) ≤ heftAt (now (s .entry)) + w) ⌝ }
 {
     match offered(k, q) {
         Offer::Nothing => {}

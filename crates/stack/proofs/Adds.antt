@@ -13,8 +13,9 @@ use borrow.Author.Tests.{lt-ltb, le-ltb, eq-eqb, ne-eqb}
 use Rattle.ground.specs.Pick.{pick}
 use Rattle.cells.specs.declared.block.MvPair.{MvPair}
 use Rattle.stack.specs.declared.candidate.Candidate.{Candidate}
-use Rattle.stack.specs.Stack.{Found, live, view, withCands, eqPair, nobody, findIn, heavier, weightier, appended, addTo, joined, pushed, extended, heft}
-use Rattle.stack.specs.Numbers.{pairIn, candAt, foundAt, viewAt, countAt, Held}
+use Rattle.stack.specs.Code.Found.{Found, live, view, weightier, appended, heft}
+use Rattle.stack.specs.Stack.{withCands, eqPair, nobody, findIn, heavier, addTo, joined, pushed, extended}
+use Rattle.stack.specs.Code.Numbers.{pairIn, candAt, foundAt, viewAt, countAt, Held}
 use Rattle.stack.proofs.Counts.{heft-at, heft-add}
 use Rattle.stack.proofs.Helds.{stack-long, cand-is, pair-laid, weight-laid, count-laid, pair-eq}
 use Rattle.stack.proofs.Maps.{Turned, as-was, live-of}

@@ -4,8 +4,8 @@ use mathlib.Core.Path.{_≡_}
 use Prim.Native.Nat.{ℕ}
 use borrow.Author.Tests.{eq-eqb, ne-eqb}
 use Rattle.ground.proofs.Picks.{pick-true, pick-false}
-use Rattle.stack.specs.Stack.{Found, view}
-use Rattle.stack.specs.Answered.{refused, found, outcome}
+use Rattle.stack.specs.Code.Found.{Found, view, outcome}
+use Rattle.stack.specs.Answered.{refused, found}
 
 module _ (answer : ℕ) (s : Found) where
   pub is-found : answer ≡ 0 → outcome answer s ≡ found (view s)

@@ -1,4 +1,4 @@
--- What `held` returns by its two tests, one turn of the clamp, and where clamped vectors lie.
+-- What `clip` returns by its two tests, one turn of the clamp, and where clamped vectors lie.
 -- Assumes nothing.
 use mathlib.Core.Path.{_≡_, sym, ap, ap₂, _∙_, subst⁻¹}
 use mathlib.Core.Bool.{true, false}
@@ -20,8 +20,9 @@ use Rattle.stack.specs.declared.candidate.Candidate.{Candidate}
 use Rattle.stack.specs.declared.clamp.Reach.{Reach}
 use Rattle.stack.specs.declared.clamp.Bounds.{Bounds}
 use Rattle.stack.specs.Stack.{State}
-use Rattle.stack.specs.Numbers.{pairBits, pairIn, candAt, foundAt, Held}
-use Rattle.stack.specs.Clamp.{clampedMv, clampedPair, clampedOne, clamped, lowest, highest, boundsOf, heldMv, heldPair}
+use Rattle.stack.specs.Code.Numbers.{pairBits, pairIn, candAt, foundAt, Held}
+use Rattle.stack.specs.Clamp.{clampedMv, clampedPair, clampedOne, clamped}
+use Rattle.stack.specs.Code.Clamp.{lowest, highest, boundsOf, clippedMv, clippedPair}
 use Rattle.stack.proofs.Helds.{stack-long, cand-is, pair-laid, FitsPair, pair-back}
 use Rattle.stack.proofs.Maps.{Turned, turns}
 use Rattle.stack.proofs.Carries.{still-held}
@@ -33,14 +34,14 @@ side back on (pos n) h = rw (le-ltb n 0 zero-le) (omega arith)
 side back on (negsuc n) h = omega arith
 
 -- so a component is held to them
-held-too : (back on : ℕ) (z : ℤ) → mag z < 2 ^ 15 → clip3 (lowest back) (highest on) z ≡ clip3 (negℤ (pos back)) (pos on) z
-held-too back on z h =
+clipped-too : (back on : ℕ) (z : ℤ) → mag z < 2 ^ 15 → clip3 (lowest back) (highest on) z ≡ clip3 (negℤ (pos back)) (pos on) z
+clipped-too back on z h =
     clip3-sides (min back 32768) (min on 32767) z ∙ ap (signed (below z)) (side back on z h) ∙ sym (clip3-sides back on z)
 
 -- and a vector
-held-mv : (r : Reach) (v : Mv) → Fits v → heldMv (boundsOf r) v ≡ clampedMv r v
-unfolding heldMv clampedMv
-held-mv r v f = rw (held-too (r .up) (r .down) (v .y) (f .y), held-too (r .left) (r .right) (v .x) (f .x))
+clipped-mv : (r : Reach) (v : Mv) → Fits v → clippedMv (boundsOf r) v ≡ clampedMv r v
+unfolding clippedMv clampedMv
+clipped-mv r v f = rw (clipped-too (r .up) (r .down) (v .y) (f .y), clipped-too (r .left) (r .right) (v .x) (f .x))
 
 pub bounded : {a b c d e f g h : ℤ} → a ≡ e → b ≡ f → c ≡ g → d ≡ h
     → _≡_ {A = Bounds} (record { up = a; down = b; left = c; right = d }) (record { up = e; down = f; left = g; right = h })
@@ -62,11 +63,11 @@ module _ (x y : ℤ) {z u a : ℤ} (same : u ≡ z) (low : a ≡ x) where
 
 -- one turn of the clamp: p is the pair that was read, q what it is held to, k the number that is stored
 clamps : (r : Reach) (l₀ l : List ℕ) (i : ℕ) {b : Bounds} {p q : MvPair} {k : ℕ} → Held l → i < 8 → Turned (clampedOne r) (foundAt l₀) i (foundAt l)
-    → p ≡ pairIn (getD l i 0) → FitsPair p → b ≡ boundsOf r → q ≡ heldPair b p → FitsPair q → k ≡ pairBits q
+    → p ≡ pairIn (getD l i 0) → FitsPair p → b ≡ boundsOf r → q ≡ clippedPair b p → FitsPair q → k ≡ pairBits q
     → Held (set l i k) × Turned (clampedOne r) (foundAt l₀) (i + 1) (foundAt (set l i k))
 unfolding candAt
 clamps r l₀ l i {b} {p} {q} {k} h n t e o a j f g =
-    let d : q ≡ clampedPair r p = j ∙ rw (a, held-mv r (p .first) (o .first), held-mv r (p .second) (o .second)) in
+    let d : q ≡ clampedPair r p = j ∙ rw (a, clipped-mv r (p .first) (o .first), clipped-mv r (p .second) (o .second)) in
     let w = getD l (8 + i) 0 in
     let u = pair-laid l i k (h .size) n in
     let m : pairIn k ≡ clampedPair r (pairIn (getD l i 0)) = ap pairIn g ∙ pair-back q f ∙ d ∙ ap (clampedPair r) e in
@@ -76,7 +77,7 @@ clamps r l₀ l i {b} {p} {q} {k} h n t e o a j f g =
 -- for whichever reach has the bounds that the code works with
 pub clamps-any : (l₀ l : List ℕ) (i : ℕ) {b : Bounds} {p q : MvPair} {k : ℕ} → Held l → i < 8
     → ((r : Reach) → b ≡ boundsOf r → Turned (clampedOne r) (foundAt l₀) i (foundAt l)) → (r : Reach) → b ≡ boundsOf r
-    → p ≡ pairIn (getD l i 0) → FitsPair p → q ≡ heldPair b p → FitsPair q → k ≡ pairBits q
+    → p ≡ pairIn (getD l i 0) → FitsPair p → q ≡ clippedPair b p → FitsPair q → k ≡ pairBits q
     → Held (set l i k) × ((o : Reach) → b ≡ boundsOf o → Turned (clampedOne o) (foundAt l₀) (i + 1) (foundAt (set l i k)))
 clamps-any l₀ l i h n t r a e u j f g =
     (clamps r l₀ l i h n (t r a) e u a j f g .0, λ o d. clamps o l₀ l i h n (t o d) e u d j f g .1)

@@ -11,7 +11,8 @@ use borrow.Author.Tests.{ltb-true}
 use Rattle.ground.specs.Pick.{pick}
 use Rattle.cells.specs.declared.block.MvPair.{MvPair}
 use Rattle.stack.specs.declared.candidate.Candidate.{Candidate}
-use Rattle.stack.specs.Stack.{nobody, findIn, stands, heavier, addTo, heft}
+use Rattle.stack.specs.Stack.{nobody, findIn, stands, heavier, addTo}
+use Rattle.stack.specs.Code.Found.{heft}
 
 pub add-length : (l : List Candidate) (p : MvPair) (w : ℕ) → length l ≤ 8 → length (addTo l p w) ≤ 8
 unfolding addTo

@@ -22,8 +22,9 @@ use Rattle.cells.specs.declared.block.MvPair.{MvPair}
 use Rattle.stack.specs.declared.candidate.Candidate.{Candidate}
 use Rattle.stack.specs.declared.numbers.Flag.{Flag}
 use Rattle.stack.specs.declared.numbers.Flag.the-variants.{NewMv, Above, Left}
-use Rattle.stack.specs.Stack.{live, view, nothing, withStack, nobody, eqPair}
-use Rattle.stack.specs.Numbers.{pairBits, pairIn, candAt, isOn, foundAt, placeOf, flagIn, flagged, Held}
+use Rattle.stack.specs.Code.Found.{live, view, withStack}
+use Rattle.stack.specs.Stack.{nothing, nobody, eqPair}
+use Rattle.stack.specs.Code.Numbers.{pairBits, pairIn, candAt, isOn, foundAt, placeOf, flagIn, flagged, Held}
 
 pub stack-long : (l : List ℕ) → length (foundAt l .stack) ≡ 8
 unfolding foundAt

@@ -7,7 +7,8 @@ use native.Mathlib.Omega.{arith}
 use native.Mathlib.Numerals.{add-one}
 use lib.ListN.{length, getD, set, take, drop}
 use Rattle.stack.specs.declared.candidate.Candidate.{Candidate}
-use Rattle.stack.specs.Stack.{State, Found, withStack, nobody, live, view, withCands}
+use Rattle.stack.specs.Stack.{State, nobody, withCands}
+use Rattle.stack.specs.Code.Found.{Found, withStack, live, view}
 
 module _ (f : Candidate → Candidate) where
   -- the first i are changed

@@ -3,7 +3,7 @@ use Prim.Native.Nat.{ℕ, suc, _+_}
 use mathlib.Core.Bool.{Bool, false, _&&_}
 use mathlib.Core.List.{List, [], _∷_, _++_, map}
 use lib.Dec.{ltb}
-use lib.ListN.{length, getD, set, take}
+use lib.ListN.{length, getD, set}
 use Rattle.ground.specs.Pick.{pick}
 use Rattle.vector.specs.Vector.{zero, eqMv}
 use Rattle.cells.specs.declared.block.MvPair.{MvPair}
@@ -16,25 +16,6 @@ pub record State : Type 0 where
   pub newmv : Bool
   pub above : Bool
   pub left : Bool
-
--- What the lent numbers hold (`Numbers`): eight candidates, of which the first `count` are in use, and the flags.
-pub record Found : Type 0 where
-  pub stack : List Candidate
-  pub count : ℕ
-  pub newmv : Bool
-  pub above : Bool
-  pub left : Bool
-
--- other candidates, all else alike
-abbrev pub withStack : Found → List Candidate → Found
-withStack s l = record { stack = l; count = s .count; newmv = s .newmv; above = s .above; left = s .left }
-
--- the candidates in use, and the state that they stand for
-unfoldable pub live : Found → List Candidate
-live s = take (s .count) (s .stack)
-
-unfoldable pub view : Found → State
-view s = record { cands = live s; newmv = s .newmv; above = s .above; left = s .left }
 
 unfoldable pub nothing : State
 nothing = record { cands = []; newmv = false; above = false; left = false }
@@ -62,13 +43,6 @@ stands l p = ltb (findIn l p) (length l)
 abbrev pub heavier : ℕ → Candidate → Candidate
 heavier w c = record { mv = c .mv; weight = c .weight + w }
 
--- the candidate at i gains weight; and one behind those in use
-unfoldable pub weightier : ℕ → ℕ → Found → Found
-weightier w i s = withStack s (set (s .stack) i (heavier w (getD (s .stack) i nobody)))
-
-unfoldable pub appended : Found → Candidate → Found
-appended s c = record { stack = set (s .stack) (s .count) c; count = suc (s .count); newmv = s .newmv; above = s .above; left = s .left }
-
 -- A candidate that stands there already gains the weight; a new one goes behind the others, and is dropped where there are eight (MAX_REF_MV_STACK_SIZE).
 unfoldable pub addTo : List Candidate → MvPair → ℕ → List Candidate
 addTo l p w =
@@ -88,8 +62,3 @@ extended s p = withCands s (pick (stands (s .cands) p) (s .cands) (s .cands ++ (
 -- all candidates gain a weight: REF_CAT_LEVEL, 640, once the nearest neighbours are through
 unfoldable pub raised : ℕ → State → State
 raised w s = withCands s (map (heavier w) (s .cands))
-
--- all weights together
-unfoldable pub heft : List Candidate → ℕ
-heft [] = 0
-heft (x ∷ xs) = x .weight + heft xs

@@ -6,9 +6,9 @@ use cells::block::MvPair;
 use vector::mv::Mv;
 ghost use mathlib.Core.Path.{_≡_};
 ghost use Rattle.ground.specs.Sign.{clip3};
-ghost use Rattle.stack.specs.Stack.{view};
-ghost use Rattle.stack.specs.Numbers.{foundAt, Held};
-ghost use Rattle.stack.specs.Clamp.{lowest, highest, boundsOf, heldMv, heldPair, clamped};
+ghost use Rattle.stack.specs.Code.Numbers.{Held, viewAt, countAt};
+ghost use Rattle.stack.specs.Code.Clamp.{lowest, highest, boundsOf, clippedMv, clippedPair};
+ghost use Rattle.stack.specs.Clamp.{clamped};
 
 // How far a vector may point, in eighths of a sample: up, down, to the left and to the right.
 pub struct Reach {
@@ -55,7 +55,7 @@ fn bounds_of(r: Reach) -> Bounds
     }
 }
 
-fn held(c: i16, least: i16, most: i16) -> i16
+fn clip(c: i16, least: i16, most: i16) -> i16
     ensures { λ r. ⌜ r ≡ clip3 least most c ⌝ }
 {
     if c < least {
@@ -68,15 +68,15 @@ fn held(c: i16, least: i16, most: i16) -> i16
 }
 
 fn clamp_mv(v: Mv, b: Bounds) -> Mv
-    ensures { λ u. ⌜ u ≡ heldMv b v ⌝ }
+    ensures { λ u. ⌜ u ≡ clippedMv b v ⌝ }
 {
-    let y = held(v.y, b.up, b.down);
-    let x = held(v.x, b.left, b.right);
+    let y = clip(v.y, b.up, b.down);
+    let x = clip(v.x, b.left, b.right);
     Mv { y, x }
 }
 
 fn clamp_pair(p: MvPair, b: Bounds) -> MvPair
-    ensures { λ q. ⌜ q ≡ heldPair b p ⌝ }
+    ensures { λ q. ⌜ q ≡ clippedPair b p ⌝ }
 {
     let first = clamp_mv(p.first, b);
     let second = clamp_mv(p.second, b);
@@ -86,7 +86,8 @@ fn clamp_pair(p: MvPair, b: Bounds) -> MvPair
 // Both vectors of each candidate; a single search's second, ZERO, stays.
 pub fn clamp(s: &mut [u64], r: Reach)
     requires { ⌜ Held (now s) ⌝ }
-    ensures { λ _. ⌜ Held (now (s .exit)) × (foundAt (now (s .exit)) .count ≡ foundAt (now (s .entry)) .count) × (view (foundAt (now (s .exit))) ≡ clamped r (view (foundAt (now (s .entry))))) ⌝ }
+    ensures { λ _. ⌜ Held (now (s .exit)) × (countAt (now (s .exit)) ≡ countAt (now (s .entry)))
+        × (viewAt (now (s .exit)) ≡ clamped r (viewAt (now (s .entry)))) ⌝ }
 {
     let b = bounds_of(r);
     let n = count_in(s);

@@ -8,8 +8,9 @@ use vector::mv::Mv;
 ghost use mathlib.Core.Path.{_≡_};
 ghost use Prim.Native.Nat.{_%_, _^_, _<_};
 ghost use lib.ListN.{length, set};
-ghost use Rattle.stack.specs.Stack.{view, nothing, withStack};
-ghost use Rattle.stack.specs.Numbers.{pairBits, pairIn, candAt, foundAt, flagIn, flagged, placeOf, Held};
+ghost use Rattle.stack.specs.Code.Found.{withStack};
+ghost use Rattle.stack.specs.Stack.{nothing};
+ghost use Rattle.stack.specs.Code.Numbers.{pairBits, pairIn, candAt, foundAt, flagIn, flagged, placeOf, Held, viewAt, countAt};
 
 pub const NUMBERS: usize = 20;
 
@@ -41,7 +42,7 @@ pub(crate) fn pair_in(n: u64) -> MvPair
 
 pub fn count_in(s: &[u64]) -> usize
     requires { ⌜ length (now s) ≡ 20 ⌝ }
-    ensures { λ r. ⌜ r ≡ foundAt (now (s .entry)) .count ⌝ }
+    ensures { λ r. ⌜ r ≡ countAt (now (s .entry)) ⌝ }
 {
     s[COUNT] as usize
 }
@@ -61,7 +62,8 @@ pub fn candidate_in(s: &[u64], i: usize) -> Candidate
 // Candidate i becomes the one of this pair and weight.
 pub(crate) fn put_candidate(s: &mut [u64], i: usize, k: u64, w: u64)
     requires { ⌜ Held (now s) × (i < 8) ⌝ }
-    ensures { λ _. ⌜ Held (now (s .exit)) × (foundAt (now (s .exit)) ≡ withStack (foundAt (now (s .entry))) (set (foundAt (now (s .entry)) .stack) i (record { mv = pairIn k; weight = w }))) ⌝ }
+    ensures { λ _. ⌜ Held (now (s .exit))
+        × (foundAt (now (s .exit)) ≡ withStack (foundAt (now (s .entry))) (set (foundAt (now (s .entry)) .stack) i (record { mv = pairIn k; weight = w }))) ⌝ }
 {
     s[i] = k;
     s[8 + i] = w;
@@ -93,7 +95,7 @@ pub fn put_flag(s: &mut [u64], f: Flag)
 
 pub fn clear(s: &mut [u64])
     requires { ⌜ length (now s) ≡ 20 ⌝ }
-    ensures { λ _. ⌜ Held (now (s .exit)) × (foundAt (now (s .exit)) .count ≡ 0) × (view (foundAt (now (s .exit))) ≡ nothing) ⌝ }
+    ensures { λ _. ⌜ Held (now (s .exit)) × (countAt (now (s .exit)) ≡ 0) × (viewAt (now (s .exit)) ≡ nothing) ⌝ }
 {
     s[COUNT] = 0;
     s[17] = 0;

@@ -26,7 +26,8 @@ use Rattle.cells.specs.declared.block.MvPair.{MvPair}
 use Rattle.cells.specs.Cell.{cellAt, wellProjected, projectedAbsent}
 use Rattle.temporal.specs.declared.aim.Aim.{Aim}
 use Rattle.temporal.specs.declared.aim.CellRead.the-variants.{Of, Absent, Refused}
-use Rattle.temporal.specs.Temporal.{cellRead, towards, pairOf, apart, Aimed}
+use Rattle.temporal.specs.Temporal.{cellRead, towards, pairOf, apart}
+use Rattle.temporal.specs.Code.Temporal.{Aimed}
 
 -- a distance of 1..31 stands in its byte as itself
 pub counted : (n : ℕ) (z : ℤ) → n ≡ bits8 (twos8 (bits8 z)) → fromTo (pos 1) (pos 31) z ≡ true → n ≡ natAbs z

@@ -13,17 +13,20 @@ use Rattle.ground.proofs.Picks.{both}
 use Rattle.cells.specs.declared.cell.Cell.{Cell}
 use Rattle.cells.specs.declared.block.MvPair.{MvPair}
 use Rattle.cells.specs.Cell.{cellAt, wellProjected, projectedAbsent}
-use Rattle.site.specs.declared.block.Site.{Site}
-use Rattle.site.specs.Site.{Placed}
-use Rattle.stack.specs.Stack.{State, Found, view, joined}
+use Rattle.frame.specs.extent.Sizes.{mostCells}
+use Rattle.spatial.specs.declared.site.block.Site.{Site}
+use Rattle.spatial.specs.Code.Site.{Placed}
+use Rattle.stack.specs.Stack.{State, joined}
+use Rattle.stack.specs.Code.Found.{Found, view, outcome}
 use Rattle.temporal.specs.declared.aim.Aim.{Aim}
 use Rattle.temporal.specs.declared.aim.CellRead.{CellRead}
 use Rattle.temporal.specs.declared.aim.CellRead.the-variants.{Of, Absent, Refused}
 use Rattle.temporal.specs.declared.sweep.Field.{Field}
 use Rattle.temporal.specs.Temporal.{cellRead, candidateOf}
-use Rattle.stack.specs.Answered.{Outcome, refused, found, outcome, onFound}
+use Rattle.stack.specs.Answered.{Outcome, refused, found, onFound}
 use Rattle.stack.proofs.Answers.{is-found, is-refused}
-use Rattle.temporal.specs.Sweep.{cellSwept, visitOf, inRow, inGrid, whereOf, cellsAlong, hasCorners, cellOf, Fielded}
+use Rattle.temporal.specs.Sweep.{cellSwept, visitOf, inRow, inGrid, whereOf, cellsAlong, hasCorners, cellOf}
+use Rattle.temporal.specs.Code.Sweep.{Fielded}
 
 -- a refusal's number is not 0
 read-refused : (l : List ℕ) (total i n : ℕ) → cellRead l total i ≡ Refused n → 1 ≤ n
@@ -108,7 +111,7 @@ cells-most limit (suc (suc zero)) h k l = omega arith
 cells-most limit (suc (suc (suc n))) h k l = absurd (lt-irrefl 2 (omega arith))
 
 -- a frame's cells are few
-pub cell-most : (down : Bool) (b : Site) → Placed b → cellOf down b ≤ 2048
+pub cell-most : (down : Bool) (b : Site) → Placed b → cellOf down b ≤ mostCells
 unfolding cellOf
 cell-most true b p = omega (arith, p .above, p .high)
 cell-most false b p = omega (arith, p .before, p .wide)
@@ -118,8 +121,8 @@ pub record Under (f : Field) (b : Site) : Type 0 where
   pub wide : b .w .0 / 2 ≤ 7
   pub high : b .h .0 / 2 ≤ 7
   pub some : 1 ≤ b .h .0 / 2
-  pub most : b .h .0 / 2 * f .stride ≤ 28672
-  pub least : f .stride ≤ b .h .0 / 2 * f .stride
+  pub most : b .h .0 / 2 * f .stride .0 ≤ 7 * mostCells
+  pub least : f .stride .0 ≤ b .h .0 / 2 * f .stride .0
 
 pub under : (f : Field) (b : Site) → Fielded f → hasCorners b ≡ true → Under f b
 unfolding hasCorners
@@ -136,6 +139,6 @@ under f b d e =
       wide = omega arith;
       high = high;
       some = some;
-      most = mul-le-mul {n₂ = 7} {m₂ = 4096} high (d .stride);
-      least = omega (arith, mul-le-mul-right (f .stride) some);
+      most = mul-le-mul {n₂ = 7} {m₂ = mostCells} high (d .stride);
+      least = omega (arith, mul-le-mul-right (f .stride .0) some);
     }

@@ -1,11 +1,10 @@
 -- The temporal scan process (7.10.2.5): which cells a block's search looks at, in order, and what they leave on the stack.
-use Prim.Native.Nat.{ℕ, zero, suc, _+_, _-_, _*_, _/_, _^_, _≤_, _<_, min}
+use Prim.Native.Nat.{ℕ, zero, suc, _+_, _-_, _*_, _/_, min}
 use mathlib.Core.Bool.{Bool, true, false, _&&_}
 use lib.Dec.{ltb, leb}
-use lib.IntN.{natAbs}
 use Rattle.ground.specs.Pick.{pick}
-use Rattle.site.specs.declared.block.Site.{Site}
-use Rattle.site.specs.Site.{limitOf}
+use Rattle.spatial.specs.declared.site.block.Site.{Site}
+use Rattle.spatial.specs.site.Site.{limitOf}
 use Rattle.stack.specs.Stack.{State, joined}
 use Rattle.stack.specs.Answered.{Outcome, refused, found, onFound}
 use Rattle.temporal.specs.declared.aim.Aim.{Aim}
@@ -44,9 +43,10 @@ cellsAlong limit step = ((limit + 1) / 2 + step - 1) / step
 unfoldable pub gridOf : (ℕ → CellRead) → Aim → Field → Site → State → Outcome
 gridOf cells a f b s =
     inGrid cells a (strideAlong (b .w .0)) (cellsAlong (limitOf false b) (strideAlong (b .w .0)))
-    (strideAlong (b .h .0) * f .stride) (cellsAlong (limitOf true b) (strideAlong (b .h .0))) (f .first) s
+    (strideAlong (b .h .0) * f .stride .0) (cellsAlong (limitOf true b) (strideAlong (b .h .0))) (f .first) s
 
--- Three more, where both sides are 2 to 15 units: below left, below right, right. Each lies in the tile and in the block's own group of 8 x 8 cells, 64 x 64 samples.
+-- Three more, where both sides are 2 to 15 units: below left, below right, right. Each lies in the tile and in the block's own group of 8 x 8 cells, 64 x 64
+-- samples.
 unfoldable pub hasCorners : Site → Bool
 hasCorners b = leb 2 (b .w .0) && leb 2 (b .h .0) && ltb (b .w .0) 16 && ltb (b .h .0) 16
 
@@ -70,25 +70,9 @@ whereOf here cells a i r = onFound r (λ s. pick here (visitOf cells a i s) (fou
 -- bw8 and bh8 are the block's sides in cells
 unfoldable pub cornersOf : (ℕ → CellRead) → Aim → Field → Site → Outcome → Outcome
 cornersOf cells a f b r =
-    whereOf (there false b (b .w .0 / 2) && there true b (b .h .0 / 2 - 1)) cells a (f .first + b .h .0 / 2 * f .stride + b .w .0 / 2 - f .stride)
-    (whereOf (there false b (b .w .0 / 2) && there true b (b .h .0 / 2)) cells a (f .first + b .h .0 / 2 * f .stride + b .w .0 / 2)
-    (whereOf (there true b (b .h .0 / 2) && leftward b) cells a (f .first + b .h .0 / 2 * f .stride - 1) r))
+    whereOf (there false b (b .w .0 / 2) && there true b (b .h .0 / 2 - 1)) cells a (f .first + b .h .0 / 2 * f .stride .0 + b .w .0 / 2 - f .stride .0)
+    (whereOf (there false b (b .w .0 / 2) && there true b (b .h .0 / 2)) cells a (f .first + b .h .0 / 2 * f .stride .0 + b .w .0 / 2)
+    (whereOf (there true b (b .h .0 / 2) && leftward b) cells a (f .first + b .h .0 / 2 * f .stride .0 - 1) r))
 
 unfoldable pub temporalOf : (ℕ → CellRead) → Aim → Field → Site → State → Outcome
 temporalOf cells a f b s = pick (hasCorners b) (cornersOf cells a f b (gridOf cells a f b s)) (gridOf cells a f b s)
-
--- What a caller sees to: the stack takes `more` weight,
-pub record Light (more heft : ℕ) : Type 0 where
-  pub light : heft + more < 2 ^ 32
-
--- the listed cells are lent, and no reference is farther than 31,
-pub record Near (nproj total : ℕ) (a : Aim) : Type 0 where
-  pub cells : 5 * total ≤ nproj
-  pub first : natAbs (a .first) ≤ 31
-  pub second : natAbs (a .second) ≤ 31
-
--- and a field's numbers are no large ones
-pub record Fielded (f : Field) : Type 0 where
-  pub first : f .first < 2 ^ 40
-  pub some : 1 ≤ f .stride
-  pub stride : f .stride ≤ 4096

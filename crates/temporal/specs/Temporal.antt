@@ -1,21 +1,18 @@
 -- One projected cell: its reading (refusals 4 and 7), the candidate that it becomes and the zero-motion context (7.10.2.6).
 use Prim.Native.Nat.{ℕ}
-use mathlib.Core.Path.{_≡_}
-use mathlib.Core.Bool.{Bool, true, _||_, not}
+use mathlib.Core.Bool.{Bool, _||_, not}
 use mathlib.Core.List.{List}
 use lib.Dec.{ltb, leb}
-use lib.IntN.{ℤ, pos, negℤ, _+ℤ_, natAbs}
+use lib.IntN.{ℤ, negℤ, _+ℤ_, natAbs}
 use Rattle.ground.specs.Pick.{pick}
-use Rattle.ground.specs.Sign.{fromTo}
 use Rattle.vector.specs.declared.mv.Mv.{Mv}
 use Rattle.vector.specs.Vector.{zero, both}
 use Rattle.vector.specs.Projection.{projected}
 use Rattle.vector.specs.Precision.{lowered}
-use Rattle.cells.specs.declared.cell.Ref.{Ref}
 use Rattle.cells.specs.declared.cell.Cell.{Cell}
 use Rattle.cells.specs.declared.block.MvPair.{MvPair}
 use Rattle.cells.specs.Cell.{cellAt, projectedAbsent, wellProjected}
-use Rattle.hints.specs.Distances.{flagOf}
+use Rattle.frame.specs.hints.Distances.{flagOf}
 use Rattle.temporal.specs.declared.aim.Aim.{Aim}
 use Rattle.temporal.specs.declared.aim.CellRead.{CellRead}
 use Rattle.temporal.specs.declared.aim.CellRead.the-variants.{Of, Absent, Refused}
@@ -55,7 +52,3 @@ unfoldable pub zeroOf : Aim → ℕ → CellRead → ℕ
 zeroOf a header (Of c) = flagOf (farOf (candidateOf a c .first) (a .gmv))
 zeroOf a header Absent = header
 zeroOf a header (Refused n) = header
-
--- a distance that a projected cell can have
-abbrev pub Aimed : Ref → Type 0
-Aimed r = fromTo (pos 1) (pos 31) (r .0) ≡ true

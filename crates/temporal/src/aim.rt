@@ -2,9 +2,9 @@
 use cells::block::MvPair;
 use cells::cell::Cell;
 use cells::cell::Ref;
+use frame::hints::distances::flag;
 use ground::sign::magnitude;
 use ground::twos::byte_bits;
-use hints::distances::flag;
 use stack::numbers::pair_bits;
 use vector::mv::Mv;
 use vector::precision::fix_mv_precision;
@@ -16,8 +16,9 @@ ghost use lib.ListN.{length};
 ghost use lib.IntN.{natAbs};
 ghost use Rattle.vector.specs.Vector.{Within};
 ghost use Rattle.cells.specs.Cell.{wellProjected, projectedAbsent};
-ghost use Rattle.stack.specs.Numbers.{pairIn};
-ghost use Rattle.temporal.specs.Temporal.{towards, pairOf, cellRead, apart, farOf, zeroOf, Aimed};
+ghost use Rattle.stack.specs.Code.Numbers.{pairIn};
+ghost use Rattle.temporal.specs.Temporal.{towards, pairOf, cellRead, apart, farOf, zeroOf};
+ghost use Rattle.temporal.specs.Code.Temporal.{Aimed};
 
 // How far the wanted references lie from the current frame, at which precision vectors are kept,
 // and the global vector of the first reference. A single search has no second one.

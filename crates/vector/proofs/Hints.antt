@@ -1,4 +1,5 @@
--- The distance of two order hints: it is what document 01 asks (`right`), and nothing else is (`only`); and how code works it out, W being what `1 << bits` gives.
+-- The distance of two order hints: it is what document 01 asks (`right`), and nothing else is (`only`); and how code works it out, W being what
+-- `1 << bits` gives.
 -- Assumes nothing.
 use mathlib.Core.Path.{_≡_, refl, sym, ap, ap₂, _∙_}
 use mathlib.Core.Bool.{true, false}

@@ -16,8 +16,8 @@ unfoldable pub distance : ℕ → ℕ → ℕ → ℤ
 distance zero a b = pos 0
 distance (suc k) a b = centred k ((a + 2 ^ suc k - b) % 2 ^ suc k)
 
--- What document 01 asks of the distance z of hints of suc k bits: it is a - b but for a multiple of 2 ^ bits, and lies in -2 ^ (bits - 1) .. 2 ^ (bits - 1) - 1.
--- (`subℕ m n` is the integer m - n.) proofs/Hints: `distance` is such a number, and the only one.
+-- What document 01 asks of the distance z of hints of suc k bits: it is a - b but for a multiple of 2 ^ bits, and lies in
+-- -2 ^ (bits - 1) .. 2 ^ (bits - 1) - 1. (`subℕ m n` is the integer m - n.) proofs/Hints: `distance` is such a number, and the only one.
 pub record Right (k a b : ℕ) (z : ℤ) : Type 0 where
   pub p : ℕ
   pub q : ℕ

@@ -1,3 +1,5 @@
+//! Times of frame setup.
+
 use crate::inputs;
 use crate::timing::Timing;
 use jaskkovir::calls;

@@ -1,3 +1,5 @@
+//! Times of a batch of loads, admitted and stepped.
+
 use crate::inputs;
 use crate::load;
 use crate::load::Fill;

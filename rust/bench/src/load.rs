@@ -1,3 +1,5 @@
+//! Times of loads over fields that are filled in three ways.
+
 use crate::inputs;
 use crate::timing::Timing;
 use jaskkovir::tmvs;

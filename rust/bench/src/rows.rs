@@ -1,3 +1,5 @@
+//! Times of superblock-row setup.
+
 use crate::inputs;
 use crate::inputs::ACROSS;
 use crate::timing::Timing;

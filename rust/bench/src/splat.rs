@@ -1,3 +1,5 @@
+//! Times of splats of three sizes.
+
 use crate::inputs;
 use crate::inputs::ACROSS;
 use crate::inputs::SIDE;

@@ -1,3 +1,5 @@
+//! Two sides run by turns, and the best time of each.
+
 use std::fmt;
 use std::fmt::Display;
 use std::fmt::Formatter;

@@ -1,4 +1,6 @@
-use crate::parts;
+//! What is asked for on the command line.
+
+use crate::names;
 use shared::split_mix::SplitMix64;
 use std::path::PathBuf;
 
@@ -51,9 +53,9 @@ impl Options {
     pub fn wants(&self, part: &str) -> bool {
         let asked = self.only.as_ref().is_none_or(|only| only == part);
         let alone = match self.extent {
-            Extent::Sequences(_) => Some(parts::SEQUENCES),
-            Extent::Captures(_) => Some(parts::CAPTURES),
-            Extent::Finds(_) => Some(parts::FINDS),
+            Extent::Sequences(_) => Some(names::SEQUENCES),
+            Extent::Captures(_) => Some(names::CAPTURES),
+            Extent::Finds(_) => Some(names::FINDS),
             Extent::Short | Extent::Long => None,
         };
         asked && alone.is_none_or(|alone| alone == part)
@@ -81,11 +83,11 @@ fn number(text: &str) -> Result<u64, String> {
 }
 
 fn part(name: &str) -> Result<String, String> {
-    let names: Vec<&str> = parts::all().map(|(name, _)| name).collect();
-    if names.contains(&name) {
+    if names::ALL.contains(&name) {
         Ok(name.to_string())
     } else {
-        Err(format!("no part {name}; there are {}", names.join(", ")))
+        let all = names::ALL.join(", ");
+        Err(format!("no part {name}; there are {all}"))
     }
 }
 
@@ -104,11 +106,11 @@ mod tests {
         assert_eq!((options.extent.clone(), options.seed), (Extent::Long, 7));
         assert!(options.wants("splat") && !options.wants("rows"));
         let options = read("--sequences there").unwrap();
-        assert!(options.wants(parts::SEQUENCES) && !options.wants("splat"));
+        assert!(options.wants(names::SEQUENCES) && !options.wants("splat"));
         let options = read("--captures there").unwrap();
-        assert!(options.wants(parts::CAPTURES) && !options.wants(parts::SEQUENCES));
+        assert!(options.wants(names::CAPTURES) && !options.wants(names::SEQUENCES));
         let options = read("--finds there").unwrap();
-        assert!(options.wants(parts::FINDS) && !options.wants(parts::CAPTURES));
+        assert!(options.wants(names::FINDS) && !options.wants(names::CAPTURES));
     }
 
     #[test]

@@ -2,6 +2,7 @@
 
 use crate::codec;
 use crate::frames;
+use crate::tables::table;
 use crate::tally::Tally;
 use crate::traced;
 use crate::traced::Cursor;
@@ -115,7 +116,7 @@ impl Now {
             tile_row,
             pass: body.u8().into(),
         };
-        let table = crate::parts::row_table(&rows::Prepared::on_record(&self.record), &row)?;
+        let table = table(&rows::Prepared::on_record(&self.record), &row)?;
         let answer = calls::tile_sbrow_init(&self.frame, &row, &mut self.tile);
         tally.count(0);
         self.rust.set_table(&table);

@@ -1,3 +1,5 @@
+//! What a part has seen: cases, refusals, differences with the smallest inputs.
+
 use std::fmt;
 use std::fmt::Display;
 use std::fmt::Formatter;

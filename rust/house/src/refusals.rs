@@ -10,11 +10,11 @@ const MISFITS: [&str; 2] = ["that can be named from here", "has no field"];
 const LOOPS: [&str; 2] = ["Inv-", "μ-"];
 
 /// A fact that the proof files and the code agree on fails: in the function that is changed, or, where a
-/// definition is, anywhere.
-pub fn is_refused(log: &str, library: &str, wrong: &Wrong) -> bool {
+/// definition is, in a file of laws. A definition that is alone in its edit may fail anywhere.
+pub fn is_refused(log: &str, library: &str, wrong: &Wrong, is_alone: bool) -> bool {
     let errors = errors(log);
     let Some(function) = &wrong.function else {
-        return !errors.is_empty();
+        return errors.iter().any(Fault::is_of_a_law) || (is_alone && !errors.is_empty());
     };
     let file = format!("/proofs/{}/Proof.antt:", function.replace("::", "/"));
     let own: Vec<&Fault> = errors
@@ -44,6 +44,12 @@ impl Fault {
     fn fits(&self) -> bool {
         !MISFITS.iter().any(|words| self.said.contains(words))
             && !LOOPS.iter().any(|start| self.name.starts_with(start))
+    }
+
+    /// A law of definitions, or a claim that stands beside them: no function's code or contract is part of it.
+    fn is_of_a_law(&self) -> bool {
+        let is_law = self.place.contains("/proofs/") && !self.place.contains("/Proof.antt:");
+        (is_law || self.place.contains("/specs/")) && self.is_fact() && self.fits()
     }
 }
 

@@ -1,43 +1,54 @@
-//! docs/CONTRACTS.md has every public function with its wrong programs, docs/ARCHITECTURE.md every file, and
-//! what docs/BASE.md names is there.
+//! The documents that are written by hand: lines that can be read, names and places that are there; and the
+//! first lines of the Rust.
 
+use house::all;
+use house::by_hand;
+use house::declares;
 use house::libraries;
 use house::read;
 use house::root;
-use house::rows;
-use house::section;
-use house::Row;
-use house::Wrong;
-
-fn document(name: &str) -> String {
-    read(&root().join("docs").join(name))
-}
+use house::WIDEST;
+use std::fs;
+use std::path::Path;
+use std::path::PathBuf;
 
 /// What is told of, and fails the test where there is any.
 fn none(faults: Vec<String>) {
     assert!(faults.is_empty(), "\n{}", faults.join("\n"));
 }
 
-/// A definition, and two wrong programs with the edits that show them, or why there are none.
-fn is_whole(row: &Row) -> bool {
-    let shown = row.wrong.contains("; ") && row.edits.len() >= 2;
-    !row.definition.is_empty() && (shown || row.wrong.starts_with('('))
+/// A path from the repository's root.
+fn shown(path: &Path) -> String {
+    let path = path.strip_prefix(root()).unwrap_or(path);
+    path.display().to_string()
+}
+
+/// Those in docs/, but for what was supplied, and those of the repository and its Rust.
+fn documents() -> Vec<PathBuf> {
+    let top = [
+        "README.md",
+        "CONTRIBUTING.md",
+        "CHANGELOG.md",
+        "rust/README.md",
+    ];
+    let mut all: Vec<PathBuf> = fs::read_dir(root().join("docs"))
+        .expect("docs")
+        .map(|entry| entry.expect("a folder's entry").path())
+        .filter(|path| path.extension().is_some_and(|ending| ending == "md"))
+        .collect();
+    all.extend(top.map(|name| root().join(name)));
+    all.sort();
+    all
 }
 
 #[test]
-fn every_public_function_is_told() {
-    let contracts = document("CONTRACTS.md");
+fn no_line_is_wide() {
     let mut faults = Vec::new();
-    for library in libraries() {
-        let told = rows(&section(&contracts, "##", &library.name).unwrap_or_default());
-        let functions = library.functions();
-        for function in functions.iter().filter(|function| function.public) {
-            let name = &function.name;
-            let mut own = told.iter().filter(|row| row.functions.contains(name));
-            // A function that prints promises nothing, and is only named.
-            let is_named = || contracts.contains(&format!("`{name}`"));
-            if !own.any(is_whole) && (function.promises || !is_named()) {
-                faults.push(format!("{}: {name} isn't told of", library.name));
+    for path in documents() {
+        for (i, line) in read(&path).lines().enumerate() {
+            let width = line.chars().count();
+            if width > WIDEST {
+                faults.push(format!("{}:{}: {width} characters", shown(&path), i + 1));
             }
         }
     }
@@ -45,31 +56,76 @@ fn every_public_function_is_told() {
 }
 
 #[test]
-fn every_wrong_program_is_told_and_applies() {
-    let contracts = document("CONTRACTS.md");
+fn every_link_leads_somewhere() {
     let mut faults = Vec::new();
-    for library in libraries() {
-        let own = section(&contracts, "##", &library.name).unwrap_or_default();
-        let wrong = library.wrong();
-        for one in &wrong {
-            if !own.contains(&one.name) {
-                faults.push(format!("{}: {} isn't told of", library.name, one.name));
-            }
-            if one.places != 1 || !one.changes {
-                faults.push(format!(
-                    "{}: {} applies at {} places",
-                    library.name, one.name, one.places
-                ));
+    for path in documents() {
+        let text = read(&path);
+        let targets = text
+            .split("](")
+            .skip(1)
+            .filter_map(|rest| rest.split(')').next());
+        let here = path.parent().expect("a folder");
+        for target in targets.filter(|target| !target.contains("://") && !target.starts_with('#')) {
+            let file = target.split('#').next().unwrap_or(target);
+            if !here.join(file).exists() {
+                faults.push(format!("{}: {target} is nowhere", shown(&path)));
             }
         }
-        for name in rows(&own).into_iter().flat_map(|row| row.edits) {
-            let elsewhere = || {
-                libraries()
-                    .iter()
-                    .any(|other| other.wrong().iter().any(|one| one.name == name))
-            };
-            if !wrong.iter().any(|one| one.name == name) && !elsewhere() {
-                faults.push(format!("{}: there is no edit {name}", library.name));
+    }
+    none(faults);
+}
+
+/// The files of Rust in a folder and in those below it, but for what was built.
+fn sources(folder: PathBuf) -> Vec<PathBuf> {
+    let paths = fs::read_dir(folder).expect("a folder");
+    let paths = paths.map(|entry| entry.expect("a folder's entry").path());
+    let below = |path: PathBuf| match path.is_dir() {
+        true if path.ends_with("target") => Vec::new(),
+        true => sources(path),
+        false => vec![path],
+    };
+    paths
+        .flat_map(below)
+        .filter(|path| path.extension().is_some_and(|ending| ending == "rs"))
+        .collect()
+}
+
+#[test]
+fn every_file_of_rust_says_what_it_is_for() {
+    let is_silent = |path: &PathBuf| !read(path).starts_with("//! ");
+    let told = |path: PathBuf| format!("{} doesn't say what it is for", shown(&path));
+    none(
+        sources(root().join("rust"))
+            .into_iter()
+            .filter(is_silent)
+            .map(told)
+            .collect(),
+    );
+}
+
+/// Folders whose files the documents name by their paths from the root.
+const FOLDERS: [&str; 6] = [
+    "crates/",
+    "docs/",
+    "examples/",
+    "include/",
+    "real/",
+    "rust/",
+];
+
+#[test]
+fn every_path_leads_somewhere() {
+    let mut faults = Vec::new();
+    for path in documents() {
+        let text = read(&path);
+        let words = text.split(|c: char| c.is_whitespace() || "`()[]|,;:\"".contains(c));
+        let is_path = |word: &&str| {
+            FOLDERS.iter().any(|folder| word.starts_with(folder)) && !word.contains('*')
+        };
+        for word in words.filter(is_path) {
+            let name = word.trim_end_matches('.');
+            if !root().join(name).exists() {
+                faults.push(format!("{}: {name} is nowhere", shown(&path)));
             }
         }
     }
@@ -77,83 +133,40 @@ fn every_wrong_program_is_told_and_applies() {
 }
 
 #[test]
-fn wrong_programs_of_one_edit_are_of_different_functions() {
-    let mut faults = Vec::new();
-    for library in libraries() {
-        let wrong = library.wrong();
-        for (i, one) in wrong.iter().enumerate() {
-            let beside = |other: &&Wrong| other.edit == one.edit;
-            let alike = |other: &Wrong| {
-                let functions = [&other.function, &one.function];
-                functions.contains(&&None) || functions[0] == functions[1]
-            };
-            if wrong[..i].iter().filter(beside).any(alike) {
-                faults.push(format!("{}: {} isn't alone", library.name, one.name));
-            }
-        }
-    }
+fn every_crate_is_in_the_picture() {
+    let architecture = by_hand(&read(&root().join("docs/ARCHITECTURE.md")));
+    let is_named = |name: &str| {
+        let mut words = architecture.split(|c: char| !c.is_alphanumeric() && c != '_');
+        words.any(|word| word == name)
+    };
+    let faults = all()
+        .into_iter()
+        .filter(|one| !is_named(&one.name))
+        .map(|one| format!("ARCHITECTURE: {} isn't told of by hand", one.name))
+        .collect();
     none(faults);
-}
-
-#[test]
-fn every_file_is_told() {
-    let architecture = document("ARCHITECTURE.md");
-    let mut faults = Vec::new();
-    for library in libraries() {
-        let own = section(&architecture, "###", &library.name).unwrap_or_default();
-        for (folder, ending, suffix) in [
-            ("src", ".rt", ".rt"),
-            ("specs", ".antt", ""),
-            ("proofs", ".antt", ""),
-        ] {
-            for stem in library.stems(folder, ending) {
-                let file = format!("{folder}/{stem}{suffix}");
-                if !own.split([' ', ',', '\n']).any(|word| word == file) {
-                    faults.push(format!("{}: {file} isn't told of", library.name));
-                }
-            }
-        }
-    }
-    none(faults);
-}
-
-/// Whether a line of a definition, a law or a function gives it this name.
-fn declares(line: &str, name: &str) -> bool {
-    let mut rest = line.trim_start();
-    for word in [
-        "unfoldable ",
-        "abbrev ",
-        "pub ",
-        "extern \"C\" ",
-        "record ",
-        "fn ",
-    ] {
-        rest = rest.strip_prefix(word).unwrap_or(rest);
-    }
-    rest.strip_prefix(name)
-        .is_some_and(|after| after.starts_with([' ', '(', '<']))
 }
 
 #[test]
 fn what_is_named_as_proved_is_there() {
-    let folders = [("src", ".rt"), ("specs", ".antt"), ("proofs", ".antt")];
     let texts: Vec<String> = libraries()
         .iter()
-        .flat_map(|library| folders.map(|(folder, ending)| library.texts(folder, ending)))
+        .flat_map(|library| ["src", "specs", "proofs"].map(|folder| library.files(folder)))
         .flatten()
+        .map(|file| file.text)
         .collect();
     let is_declared = |name: &str| {
         texts
             .iter()
             .any(|text| text.lines().any(|line| declares(line, name)))
     };
-    // Paths, crates, and the plain reading beside the Rust.
+    // Paths, crates, modules, and the plain reading beside the Rust.
     let is_place = |name: &str| {
         name.contains('/')
             || root().join("crates").join(name).is_dir()
             || root().join("rust/oracle/src").join(name).is_dir()
     };
-    let base = document("BASE.md");
+    let base = read(&root().join("docs/BASE.md"));
     let names = base.split('`').skip(1).step_by(2);
     none(
         names
@@ -161,25 +174,4 @@ fn what_is_named_as_proved_is_there() {
             .map(|name| format!("BASE: {name} is nowhere"))
             .collect(),
     );
-}
-
-#[test]
-fn no_function_is_long() {
-    let long = libraries()
-        .iter()
-        .flat_map(|library| {
-            library
-                .functions()
-                .into_iter()
-                .filter(|function| function.lines >= 40)
-                .map(|function| {
-                    format!(
-                        "{}: {} has {} lines",
-                        library.name, function.name, function.lines
-                    )
-                })
-                .collect::<Vec<_>>()
-        })
-        .collect();
-    none(long);
 }

@@ -6,15 +6,19 @@ use house::Wrong;
 fn wrong(function: Option<&str>) -> Wrong {
     Wrong {
         name: "another_operand".into(),
+        words: "another operand".into(),
         edit: "first".into(),
+        file: "src/mv.rt".into(),
         places: 1,
         changes: true,
         function: function.map(String::from),
+        definition: None,
+        stands_for: Vec::new(),
     }
 }
 
 fn of_function(log: &str) -> bool {
-    is_refused(log, "leaf", &wrong(Some("mv::Mv::is")))
+    is_refused(log, "leaf", &wrong(Some("mv::Mv::is")), false)
 }
 
 #[test]
@@ -60,9 +64,29 @@ fn a_proof_that_does_not_fit_the_code_shows_nothing() {
 }
 
 #[test]
-fn a_definition_is_refused_anywhere() {
+fn a_definition_alone_is_refused_anywhere() {
     let definition = wrong(None);
     let law = "/x/proofs/Laws.antt:9:3: error: `moved`: the two types differ";
-    assert!(is_refused(law, "leaf", &definition));
-    assert!(!is_refused("logic=proved", "leaf", &definition));
+    let function = "/x/proofs/mv/Mv/is/Proof.antt:9:3: error: `returns`: the two types differ";
+    assert!(is_refused(law, "leaf", &definition, true));
+    assert!(is_refused(function, "leaf", &definition, true));
+    assert!(!is_refused("logic=proved", "leaf", &definition, true));
+}
+
+#[test]
+fn a_definition_beside_others_is_refused_by_a_law() {
+    let definition = wrong(None);
+    let is_refused = |log| is_refused(log, "leaf", &definition, false);
+    assert!(is_refused(
+        "/x/proofs/a/Laws.antt:9:3: error: `moved`: the two types differ"
+    ));
+    assert!(!is_refused(
+        "/x/proofs/mv/Mv/is/Proof.antt:9:3: error: `returns`: the two types differ"
+    ));
+    assert!(!is_refused(
+        "/x/proofs/Laws.antt:9:3: error: `moved`: `still` was not admitted"
+    ));
+    assert!(is_refused(
+        "/x/specs/Worked.antt:9:3: error: `worked`: the two types differ"
+    ));
 }

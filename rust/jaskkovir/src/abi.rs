@@ -1,15 +1,15 @@
-//! The exported functions, as they stand in `crates/abi`. A lent part is a pointer and a length.
+//! The exported functions, as they stand in `crates/jaskkovir`. A lent part is a pointer and a length.
 //!
 //! Only the functions of `leaves.rt` ask something of their callers, beside valid parts: a part that
 //! is written to must share no byte with another.
 
 extern "C" {
-    // crates/abi/src/leaves.rt
+    // crates/jaskkovir/src/leaves.rt
     pub fn jaskkovir_mv_projection(y: i16, x: i16, num: i16, den: u32) -> u32;
     pub fn jaskkovir_fix_mv_precision(y: i16, x: i16, integer: bool, hp: bool) -> u32;
     pub fn jaskkovir_get_poc_diff(bits: u32, a: u32, b: u32) -> i16;
 
-    // crates/abi/src/frames.rt
+    // crates/jaskkovir/src/frames.rt
     pub fn jaskkovir_init_frame(
         width: usize,
         height: usize,
@@ -37,7 +37,7 @@ extern "C" {
         sizes_len: usize,
     ) -> u8;
 
-    // crates/abi/src/tiles.rt
+    // crates/jaskkovir/src/tiles.rt
     pub fn jaskkovir_tile_sbrow_init(
         frame: *const u8,
         frame_len: usize,
@@ -66,7 +66,7 @@ extern "C" {
         records_len: usize,
     ) -> u8;
 
-    // crates/abi/src/motions.rt
+    // crates/jaskkovir/src/motions.rt
     pub fn jaskkovir_save_tmvs(
         frame: *const u8,
         frame_len: usize,
@@ -128,7 +128,7 @@ extern "C" {
         found_len: usize,
     ) -> u8;
 
-    // crates/abi/src/batches.rt
+    // crates/jaskkovir/src/batches.rt
     pub fn jaskkovir_admit(
         frame: *const u8,
         frame_len: usize,
@@ -187,7 +187,7 @@ extern "C" {
         saved_len: usize,
     ) -> u8;
 
-    // crates/abi/src/captures.rt
+    // crates/jaskkovir/src/captures.rt
     pub fn jaskkovir_play(
         file: *const u8,
         file_len: usize,

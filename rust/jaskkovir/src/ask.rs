@@ -1,3 +1,5 @@
+//! A candidate search's question, in numbers and in its 24 bytes.
+
 use crate::leaves::Vector;
 
 /// What a candidate search is asked. In bytes, little-endian: two references (i8), size code, whether

@@ -1,3 +1,5 @@
+//! The frame record in its 109 bytes, and the sizes that are lent for it.
+
 use crate::calls;
 use crate::calls::Description;
 use crate::calls::Row;

@@ -1,3 +1,5 @@
+//! The tile in its 168 bytes.
+
 use crate::calls;
 use crate::calls::Block;
 use crate::Frame;

@@ -1,11 +1,11 @@
 //! Jobs: loads and saves of one frame, run whole.
 
+use crate::asked::SavePlace;
 use crate::leaves;
 use crate::load;
 use crate::paper::FrameRecord;
 use crate::paper::Job;
 use crate::save;
-use crate::save::Place;
 use crate::Outcome;
 
 /// A frame and its buffers in the Rust's own types. The buffers go on from job to job.
@@ -27,8 +27,8 @@ impl Prepared {
         let mut held = records.to_vec();
         held.as_chunks_mut().0.iter_mut().for_each(hold);
         Self {
-            load: load::Prepared::on_record(record, &Place::NOWHERE.window, fields, projection),
-            save: save::Prepared::on_record(record, &Place::NOWHERE, &held, saved),
+            load: load::Prepared::on_record(record, &SavePlace::NOWHERE.window, fields, projection),
+            save: save::Prepared::on_record(record, &SavePlace::NOWHERE, &held, saved),
             ih8: record.ih8,
         }
     }

@@ -4,9 +4,11 @@
 //! supplied files; where that can panic, the answer is an [`Outcome`]. Only [`paper`] stands apart:
 //! the Rust has no refusals, so they are read off the scope paper.
 
+mod asked;
 mod buffers;
 pub mod frame;
 pub mod jobs;
+mod kept;
 pub mod leaves;
 pub mod load;
 mod outcome;

@@ -3,9 +3,9 @@
 use crate::buffers;
 use crate::frame::Description;
 use crate::frame::Inputs;
+use crate::kept::FrameRecord;
 use crate::leaves;
 use crate::outcome::outcome_of;
-use crate::paper::FrameRecord;
 use crate::record;
 use crate::src::disjoint_mut::DisjointMutArcSlice;
 use crate::src::refmvs::Rav1dRefmvsDSPContext;

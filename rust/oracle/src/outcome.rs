@@ -1,3 +1,5 @@
+//! A panic of the Rust, told as a value.
+
 use std::cell::Cell;
 use std::panic;
 use std::panic::AssertUnwindSafe;

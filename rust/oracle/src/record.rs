@@ -2,10 +2,10 @@
 
 use crate::frame::Description;
 use crate::frame::Finished;
-use crate::paper;
-use crate::paper::FrameRecord;
-use crate::paper::HintFields;
-use crate::paper::Slot;
+use crate::kept;
+use crate::kept::FrameRecord;
+use crate::kept::HintFields;
+use crate::kept::Slot;
 use crate::src::refmvs::RefMvsFrame;
 use std::array;
 use std::fmt::Debug;
@@ -46,7 +46,7 @@ pub fn frame_record(description: &Description, finished: &Finished) -> FrameReco
 /// and buffers of the listed sizes.
 pub(crate) fn real_frame(record: &FrameRecord) -> RefMvsFrame {
     let mut rf = without_buffers(record);
-    rf.r.resize(fit(paper::listed_records(record)), FromZeroes::new_zeroed());
+    rf.r.resize(fit(kept::listed_records(record)), FromZeroes::new_zeroed());
     rf.rp_proj
         .resize(fit(16 * record.n_blocks), Default::default());
     rf

@@ -2,9 +2,9 @@
 
 use crate::frame::Description;
 use crate::frame::Inputs;
+use crate::kept::FrameRecord;
+use crate::kept::RowTable;
 use crate::outcome::outcome_of;
-use crate::paper::FrameRecord;
-use crate::paper::RowTable;
 use crate::record;
 use crate::src::refmvs::rav1d_refmvs_tile_sbrow_init;
 use crate::src::refmvs::RefMvsFrame;
@@ -13,35 +13,10 @@ use crate::src::refmvs::RefmvsTileRange;
 use crate::window;
 use crate::Outcome;
 
+pub use crate::asked::RowPlace as Place;
+
 /// The Rust's mark for an entry that isn't there.
 const ABSENT: usize = usize::MAX;
-
-/// What a superblock row is set up from. Bounds are in 4-sample units.
-#[derive(Clone, Copy, Debug, PartialEq, Eq)]
-pub struct Place {
-    pub col_start: u32,
-    pub col_end: u32,
-    pub row_start: u32,
-    pub row_end: u32,
-    pub superblock_row: u32,
-    pub tile_row: u32,
-    pub pass: u32,
-}
-
-impl Place {
-    /// The numbers in the order of the Rust's arguments.
-    pub fn numbers(&self) -> [u32; 7] {
-        [
-            self.col_start,
-            self.col_end,
-            self.row_start,
-            self.row_end,
-            self.superblock_row,
-            self.tile_row,
-            self.pass,
-        ]
-    }
-}
 
 /// A superblock row's table.
 #[derive(Clone, Copy, Debug, PartialEq, Eq)]

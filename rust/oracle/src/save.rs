@@ -3,8 +3,8 @@
 use crate::buffers;
 use crate::frame::Description;
 use crate::frame::Inputs;
+use crate::kept::FrameRecord;
 use crate::outcome::outcome_of;
-use crate::paper::FrameRecord;
 use crate::record;
 use crate::rows;
 use crate::src::disjoint_mut::DisjointMutArcSlice;
@@ -13,50 +13,9 @@ use crate::src::refmvs::RefMvsBlock;
 use crate::src::refmvs::RefMvsFrame;
 use crate::src::refmvs::RefMvsTemporalBlock;
 use crate::src::refmvs::RefmvsTile;
-use crate::window;
 use crate::Outcome;
-use crate::Window;
 
-/// What a save covers, and whose row table it reads.
-#[derive(Clone, Copy, Debug, PartialEq, Eq)]
-pub struct Place {
-    pub window: Window,
-    pub superblock_row: u32,
-    pub pass: u32,
-}
-
-impl Place {
-    /// No cell, for buffers that are made before a place is known.
-    pub const NOWHERE: Self = Self {
-        window: Window {
-            tile_row: 0,
-            col_start: 0,
-            col_end: 0,
-            row_start: 0,
-            row_end: 0,
-        },
-        superblock_row: 0,
-        pass: 1,
-    };
-
-    /// The window's numbers, then the superblock row and the pass.
-    pub fn numbers(&self) -> [u32; 7] {
-        let [tile_row, col_start, col_end, row_start, row_end] = self.window.numbers();
-        [
-            tile_row,
-            col_start,
-            col_end,
-            row_start,
-            row_end,
-            self.superblock_row,
-            self.pass,
-        ]
-    }
-
-    fn real(&self) -> [i32; 7] {
-        self.numbers().map(window::real)
-    }
-}
+pub use crate::asked::SavePlace as Place;
 
 /// `save_tmvs` on a frame that was just set up: the field's bytes afterwards.
 ///

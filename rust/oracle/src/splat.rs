@@ -4,8 +4,8 @@ use crate::buffers;
 use crate::buffers::real;
 use crate::frame::Description;
 use crate::frame::Inputs;
+use crate::kept::FrameRecord;
 use crate::outcome::outcome_of;
-use crate::paper::FrameRecord;
 use crate::record;
 use crate::rows::Table;
 use crate::src::align::Align16;
@@ -17,14 +17,7 @@ use crate::src::refmvs::RefmvsTile;
 use crate::window;
 use crate::Outcome;
 
-/// A block in 4-sample units.
-#[derive(Clone, Copy, Debug, PartialEq, Eq)]
-pub struct Block {
-    pub by4: u32,
-    pub bx4: u32,
-    pub width: u32,
-    pub height: u32,
-}
+pub use crate::asked::Block;
 
 /// `splat_mv` on a frame that was just set up: the places of the records that it wrote, in order.
 ///

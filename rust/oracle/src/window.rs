@@ -1,3 +1,5 @@
+//! The window of a load or a save.
+
 /// What a load or a save covers, in 8-sample units.
 #[derive(Clone, Copy, Debug, PartialEq, Eq)]
 pub struct Window {

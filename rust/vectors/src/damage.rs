@@ -1,3 +1,5 @@
+//! A field of a finished frame record that is replaced by another value.
+
 use oracle::paper::FrameRecord;
 use oracle::paper::HintFields;
 use oracle::paper::Slot;
@@ -6,7 +8,7 @@ use std::ops::RangeInclusive;
 /// `ref2cur` of a skipped reference, where it stands as a number.
 pub const SKIPPED: i8 = i8::MIN;
 
-/// A field of the finished frame record, by its number, that is replaced after setup: 8 bytes.
+/// The field's number, and what is put there.
 #[derive(Clone, Copy)]
 pub struct Damage {
     pub field: u32,
@@ -43,8 +45,6 @@ impl Kind {
 }
 
 impl Damage {
-    pub const LEN: usize = 8;
-
     pub const NONE: Self = Self { field: 0, value: 0 };
 
     pub const FIELDS: RangeInclusive<u32> = 1..=63;
@@ -63,14 +63,11 @@ impl Damage {
         self.field == 0
     }
 
-    pub fn bytes(self) -> Vec<u8> {
-        [self.field.to_le_bytes(), self.value.to_le_bytes()].concat()
-    }
-
-    pub fn apply(self, record: &mut FrameRecord) {
+    /// The record with the damage.
+    pub fn on(self, mut record: FrameRecord) -> FrameRecord {
         match self.field {
             0 => {}
-            1..=12 => *size_field(record, self.field) = self.unsigned(),
+            1..=12 => *size_field(&mut record, self.field) = self.unsigned(),
             13 => record.use_ref_frame_mvs = self.byte(),
             14 => record.temporal = self.byte(),
             15 => record.n_mfmvs = self.byte(),
@@ -84,6 +81,7 @@ impl Damage {
             }
             _ => panic!("no field {}", self.field),
         }
+        record
     }
 
     fn apply_to_hint(self, fields: &mut HintFields, at: usize) {
@@ -145,8 +143,7 @@ mod tests {
         let record = FrameQuestion::BASE.record().unwrap();
         let mut seen = vec![record];
         for field in Damage::FIELDS {
-            let mut ruined = record;
-            Damage::ruin(field).apply(&mut ruined);
+            let ruined = Damage::ruin(field).on(record);
             assert_eq!(paper::record_answer(&ruined), 1, "field {field}");
             assert!(!seen.contains(&ruined), "field {field} is another's");
             seen.push(ruined);
@@ -155,9 +152,9 @@ mod tests {
 
     #[test]
     fn a_skipped_reference_has_a_number() {
-        let mut record = FrameQuestion::BASE.record().unwrap();
         let value = SKIPPED.into();
-        Damage { field: 47, value }.apply(&mut record);
+        let record = FrameQuestion::BASE.record().unwrap();
+        let record = Damage { field: 47, value }.on(record);
         assert_eq!(record.slots[1].ref2cur, None);
         assert_eq!(paper::record_answer(&record), 0);
     }

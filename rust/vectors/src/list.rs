@@ -1,182 +1,207 @@
-//! A list of cases with their answers, as the two files of its folder in `crates/`.
+//! The list of the program `vectors`: its lines in `stdin`, and in `stdout` what they must give.
 
+use cases::codec::frame_bytes;
+use oracle::paper::FrameRecord;
+use shared::desk::changes;
+use shared::desk::Desk;
+use shared::desk::Role;
 use std::collections::BTreeMap;
 use std::collections::HashSet;
-use std::fs;
-use std::path::Path;
-use std::path::PathBuf;
+use std::hash::DefaultHasher;
+use std::hash::Hash;
+use std::hash::Hasher;
 
 pub const SEED: u64 = 20261115;
 
-const HEAD_LEN: usize = 64;
+/// What a line calls, by its number.
+#[derive(Clone, Copy, Debug, PartialEq, Eq, PartialOrd, Ord, Hash)]
+pub enum Function {
+    InitFrame = 10,
+    Check = 11,
+    ListedSizes = 12,
+    TileSbrowInit = 13,
+    SplatMv = 14,
+    SaveTmvs = 15,
+    LoadTmvs = 16,
+    Find = 17,
+    Admit = 18,
+    Play = 19,
+    /// Steps of a batch in one order, which leave the desk as it is.
+    Steps = 20,
+    /// Steps of a batch in many orders, which leave the desk as it is. The program does nothing there:
+    /// `compare` takes them.
+    Orders = 21,
+    MvProjection = 30,
+    FixMvPrecision = 31,
+    GetPocDiff = 32,
+    Negated = 33,
+    ReadCell = 34,
+    ReadRecord = 35,
+}
 
-/// A question, and how to come by its answer.
+/// A line that is answered, with what must lie on the desk.
+pub struct Question {
+    pub function: Function,
+    pub numbers: Vec<i64>,
+    pub lent: Vec<(Role, Vec<u8>)>,
+}
+
+/// The numbers that are printed, and the parts that the call writes, as they are then.
+pub struct Answer {
+    pub numbers: Vec<i64>,
+    pub after: Vec<(Role, Vec<u8>)>,
+}
+
+/// A case, which has one question or several.
 pub trait Case {
-    /// The length of each case in `stdin`, but for what `behind` tells.
-    const LEN: usize;
-
-    /// How many more bytes this case has.
-    fn behind(&self) -> usize {
-        0
-    }
-
-    fn bytes(&self) -> Vec<u8>;
-
-    /// What stands in `stdout` before the line's end, or why there is none.
-    fn answer(&self) -> Result<String, String>;
-
-    /// What an answer is counted under.
-    fn label(answer: &str) -> &str {
-        answer.split(' ').next().unwrap_or(answer)
-    }
+    fn put(&self, list: &mut List) -> Result<(), String>;
 }
 
 pub struct List {
-    /// Its folder in `crates/`.
-    folder: String,
-    pub questions: Vec<u8>,
-    answers: String,
-    /// What the list holds, in one line.
-    pub summary: String,
+    desk: Desk,
+    pub questions: String,
+    pub answers: String,
+    seen: HashSet<u64>,
+    /// How many lines each function has, those of an exported one by their answer.
+    counts: BTreeMap<(Function, Option<i64>), usize>,
+}
+
+impl Question {
+    pub fn new<N: Into<i64>>(function: Function, numbers: impl IntoIterator<Item = N>) -> Self {
+        Self {
+            function,
+            numbers: numbers.into_iter().map(N::into).collect(),
+            lent: Vec::new(),
+        }
+    }
+
+    /// With this part beside those before.
+    pub fn lending(mut self, role: Role, bytes: impl Into<Vec<u8>>) -> Self {
+        self.lent.push((role, bytes.into()));
+        self
+    }
+
+    /// A call on a finished frame record.
+    pub fn on<N: Into<i64>>(
+        function: Function,
+        record: &FrameRecord,
+        numbers: impl IntoIterator<Item = N>,
+    ) -> Self {
+        Self::new(function, numbers).lending(Role::FRAME, frame_bytes(record))
+    }
+
+    /// Two questions with the same key are the same.
+    pub fn key(&self) -> u64 {
+        let mut hasher = DefaultHasher::new();
+        (self.function, &self.numbers, &self.lent).hash(&mut hasher);
+        hasher.finish()
+    }
+}
+
+impl Answer {
+    pub fn of(number: u8) -> Self {
+        Self {
+            numbers: vec![number.into()],
+            after: Vec::new(),
+        }
+    }
+
+    /// With this part beside those before.
+    pub fn leaving(mut self, role: Role, bytes: impl Into<Vec<u8>>) -> Self {
+        self.after.push((role, bytes.into()));
+        self
+    }
 }
 
 impl List {
-    /// One question without a head, for a program that answers no more.
-    pub fn single(folder: &str, question: Vec<u8>, answer: String) -> Self {
+    pub fn new() -> Self {
         Self {
-            folder: folder.to_string(),
-            summary: format!("{folder}: 1 case"),
-            questions: question,
-            answers: answer,
+            desk: Desk::default(),
+            questions: String::new(),
+            answers: String::new(),
+            seen: HashSet::new(),
+            counts: BTreeMap::new(),
         }
     }
 
-    /// The cases in their order, none twice.
-    pub fn new<C: Case>(name: &str, cases: &[C]) -> Result<Self, String> {
-        let mut questions = Vec::new();
-        let mut answers = String::new();
-        let mut counts = BTreeMap::new();
-        let mut seen = HashSet::new();
-        for case in cases {
-            let bytes = case.bytes();
-            assert_eq!(bytes.len(), C::LEN + case.behind(), "a {name} case");
-            if !seen.insert(bytes.clone()) {
-                continue;
-            }
-            let answer = case
-                .answer()
-                .map_err(|why| format!("{name} case {bytes:?}: {why}"))?;
-            *counts.entry(C::label(&answer).to_string()).or_insert(0) += 1;
-            questions.extend(bytes);
-            answers += &answer;
-            answers.push('\n');
-        }
-        questions.splice(0..0, head(name, seen.len()));
-        Ok(Self {
-            folder: format!("{name}_vectors"),
-            questions,
-            answers,
-            summary: summary(name, &counts),
-        })
-    }
-
-    fn files(&self) -> [(PathBuf, &[u8]); 2] {
-        let folder = Path::new("crates").join(&self.folder);
-        [
-            (folder.join("stdin"), self.questions.as_slice()),
-            (folder.join("stdout"), self.answers.as_bytes()),
-        ]
-    }
-
-    pub fn write(&self) -> Result<(), String> {
-        for (name, bytes) in self.files() {
-            write(&name, bytes)?;
+    /// Puts cases behind those before, under a title, which has no digit: it is no command then.
+    pub fn put_all<C: Case>(&mut self, title: &str, cases: &[C]) -> Result<(), String> {
+        self.questions += &format!("{title}\n");
+        for (at, case) in cases.iter().enumerate() {
+            case.put(self)
+                .map_err(|why| format!("{title}, case {at}: {why}"))?;
         }
         Ok(())
     }
 
-    pub fn check(&self) -> Result<(), String> {
-        for (name, bytes) in self.files() {
-            if read(&name)? != bytes {
-                return Err(format!(
-                    "{} differs from what the Rust gives now",
-                    name.display()
-                ));
+    /// Puts a question with its answer behind those before, unless it is among them.
+    pub fn put(&mut self, question: Question, answer: Answer) {
+        if !self.ask(&question) {
+            return;
+        }
+        let function = question.function;
+        self.answers += &line(function, &answer.numbers);
+        for (role, after) in &answer.after {
+            self.answers += &changes(*role, self.desk.part(*role), after);
+            if function != Function::Steps {
+                self.desk.keep(*role, after);
             }
         }
-        Ok(())
+        let told = answer
+            .numbers
+            .first()
+            .copied()
+            .filter(|_| function.is_exported());
+        *self.counts.entry((function, told)).or_insert(0) += 1;
     }
-}
 
-fn head(name: &str, count: usize) -> Vec<u8> {
-    let text = format!("jaskkovir {name} vectors, seed {SEED}, cases {count}");
-    format!("{text:<width$}\n", width = HEAD_LEN - 1).into_bytes()
-}
-
-fn summary(name: &str, counts: &BTreeMap<String, usize>) -> String {
-    let total: usize = counts.values().sum();
-    let parts: Vec<String> = counts
-        .iter()
-        .map(|(label, count)| format!("{label}: {count}"))
-        .collect();
-    format!("{name}: {total} cases ({})", parts.join(", "))
-}
-
-/// Reads a file of the repository, named from its root.
-pub fn read(name: &Path) -> Result<Vec<u8>, String> {
-    fs::read(root().join(name)).map_err(|error| format!("{}: {error}", name.display()))
-}
-
-/// Writes a file of the repository, named from its root.
-pub fn write(name: &Path, bytes: &[u8]) -> Result<(), String> {
-    let path = root().join(name);
-    let folder = path.parent().expect("the file stands in a folder");
-    fs::create_dir_all(folder)
-        .and_then(|()| fs::write(&path, bytes))
-        .map_err(|error| format!("{}: {error}", name.display()))
-}
-
-fn root() -> &'static Path {
-    Path::new(concat!(env!("CARGO_MANIFEST_DIR"), "/../.."))
-}
-
-#[cfg(test)]
-mod tests {
-    use super::*;
-
-    /// A case of one byte, whose answer is the byte; 255 has none.
-    struct Byte(u8);
-
-    impl Case for Byte {
-        const LEN: usize = 1;
-
-        fn bytes(&self) -> Vec<u8> {
-            vec![self.0]
-        }
-
-        fn answer(&self) -> Result<String, String> {
-            match self.0 {
-                255 => Err("no answer".to_string()),
-                byte => Ok(format!("{} {byte}", byte % 2)),
-            }
+    /// The same for a question that the program leaves to `compare`.
+    pub fn put_unanswered(&mut self, question: Question) {
+        if self.ask(&question) {
+            *self.counts.entry((question.function, None)).or_insert(0) += 1;
         }
     }
 
-    #[test]
-    fn a_list_has_its_head_and_each_case_once() {
-        let list = List::new("byte", &[3, 4, 3, 5].map(Byte)).unwrap();
-        let (head, cases) = list.questions.split_at(HEAD_LEN);
-        let head = str::from_utf8(head).unwrap();
-        assert!(head.starts_with("jaskkovir byte vectors, seed 20261115, cases 3  "));
-        assert!(head.ends_with(" \n"));
-        assert_eq!(cases, [3, 4, 5]);
-        assert_eq!(list.answers, "1 3\n0 4\n1 5\n");
-        assert_eq!(list.summary, "byte: 3 cases (0: 1, 1: 2)");
+    /// Lays what is lent, and puts the line behind those before, unless it is among them.
+    fn ask(&mut self, question: &Question) -> bool {
+        if !self.seen.insert(question.key()) {
+            return false;
+        }
+        for (role, bytes) in &question.lent {
+            self.questions += &self.desk.lay(*role, bytes);
+        }
+        self.questions += &line(question.function, &question.numbers);
+        true
     }
+}
 
-    #[test]
-    fn a_case_without_an_answer_is_told() {
-        let told = List::new("byte", &[3, 255].map(Byte)).err();
-        assert_eq!(told.as_deref(), Some("byte case [255]: no answer"));
+impl Function {
+    fn is_exported(self) -> bool {
+        self < Self::Steps
     }
+}
+
+impl List {
+    /// How many lines each function has.
+    pub fn summary(&self) -> String {
+        let mut functions: BTreeMap<Function, Vec<String>> = BTreeMap::new();
+        for ((function, answer), count) in &self.counts {
+            let told = match answer {
+                Some(answer) => format!("{answer}: {count}"),
+                None => count.to_string(),
+            };
+            functions.entry(*function).or_default().push(told);
+        }
+        let told = |(function, counts): (&Function, &Vec<String>)| {
+            format!("{function:?} {}", counts.join(", "))
+        };
+        let lines: Vec<String> = functions.iter().map(told).collect();
+        lines.join("\n")
+    }
+}
+
+fn line(function: Function, numbers: &[i64]) -> String {
+    let mut words = vec![(function as i64).to_string()];
+    words.extend(numbers.iter().map(i64::to_string));
+    words.join(" ") + "\n"
 }

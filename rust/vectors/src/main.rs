@@ -1,11 +1,12 @@
-//! Writes the test vectors from the Rust: for each list `stdin` holds the cases and `stdout` the
-//! answers. With `--check` it only compares. With `--take-frames` and a folder of traced sequences
-//! it writes `real/frames.bin`, which the frame list reads. With `--captures` and a folder of real
-//! captures it replays them, and compares with what a traced decoder left.
+//! Writes the list of the program `vectors`, from the Rust and the paper: `stdin` holds the questions
+//! and `stdout` the answers. With `--check` it only compares. With `--take-frames` and a folder of
+//! traced sequences it writes `real/frames.bin`, from which the list has its real frames. With
+//! `--captures` and a folder of real captures it replays them, and compares with what a traced decoder
+//! left.
 
 mod capture;
-mod cells;
 mod damage;
+mod files;
 mod find;
 mod frame;
 mod job;
@@ -31,8 +32,8 @@ fn main() -> ExitCode {
     let args: Vec<String> = env::args().skip(1).collect();
     let args: Vec<&str> = args.iter().map(String::as_str).collect();
     let done = match args.as_slice() {
-        [] => for_each_list(List::write),
-        ["--check"] => for_each_list(List::check),
+        [] => for_each_file(files::write),
+        ["--check"] => for_each_file(files::check),
         ["--take-frames", folder] => real::take(Path::new(folder)),
         ["--captures", folder] => capture::real::check(Path::new(folder)),
         _ => Err("usage: vectors [--check | --take-frames DIR | --captures DIR]".to_string()),
@@ -46,22 +47,36 @@ fn main() -> ExitCode {
     }
 }
 
-fn for_each_list(act: impl Fn(&List) -> Result<(), String>) -> Result<(), String> {
-    for make in [
-        leaf::list,
-        frame::list,
-        row::list,
-        splat::list,
-        save::list,
-        load::list,
-        job::list,
-        find::list,
-        capture::list,
-        capture::worked_list,
+/// The files of the two programs: the list's, and `replay` on document 01's worked example.
+fn for_each_file(act: impl Fn(&Path, &[u8]) -> Result<(), String>) -> Result<(), String> {
+    let list = list()?;
+    let [capture, output] = capture::worked_example();
+    for (name, bytes) in [
+        ("crates/vectors/stdin", list.questions.as_bytes()),
+        ("crates/vectors/stdout", list.answers.as_bytes()),
+        ("crates/replay/stdin", &capture),
+        ("crates/replay/stdout", &output),
     ] {
-        let list = make()?;
-        act(&list)?;
-        println!("{}", list.summary);
+        act(Path::new(name), bytes)?;
     }
+    println!("{}", list.summary());
     Ok(())
+}
+
+fn list() -> Result<List, String> {
+    let mut list = List::new();
+    for put in [
+        leaf::put,
+        frame::put,
+        row::put,
+        splat::put,
+        save::put,
+        load::put,
+        job::put,
+        find::put,
+        capture::put,
+    ] {
+        put(&mut list)?;
+    }
+    Ok(list)
 }

@@ -1,11 +1,20 @@
+//! A frame that is to be set up.
+
+use crate::list::Answer;
+use crate::list::Function;
+use crate::list::List;
+use crate::list::Question;
+use cases::codec::frame_bytes;
+use cases::codec::FRAME_LEN;
 use oracle::frame;
 use oracle::frame::Description;
 use oracle::frame::Finished;
 use oracle::paper;
 use oracle::paper::FrameRecord;
 use oracle::record::frame_record;
+use shared::desk::lent;
+use shared::desk::Role;
 
-/// A frame that is to be set up: 100 bytes at the start of each case.
 #[derive(Clone, Copy)]
 pub struct FrameQuestion {
     pub description: Description,
@@ -14,8 +23,6 @@ pub struct FrameQuestion {
 }
 
 impl FrameQuestion {
-    pub const LEN: usize = 100;
-
     /// A small frame with references behind and ahead, from which most cases start.
     pub const BASE: Self = Self {
         description: Description {
@@ -63,7 +70,8 @@ impl FrameQuestion {
         self
     }
 
-    pub fn bytes(&self) -> Vec<u8> {
+    /// Frame setup.
+    pub fn setup(&self) -> Question {
         let description = &self.description;
         let numbers = [
             description.width,
@@ -76,12 +84,30 @@ impl FrameQuestion {
             description.frame_threads,
             description.temporal,
         ];
-        let mut bytes: Vec<u8> = numbers.into_iter().flat_map(u32::to_le_bytes).collect();
-        bytes.extend(description.hints);
-        bytes.extend(description.hints_by_ref.as_flattened());
-        bytes.extend(self.present);
-        bytes.push(0);
-        bytes
+        Question::new(Function::InitFrame, numbers)
+            .lending(Role::HINTS, description.hints)
+            .lending(Role::HINTS_BY_REF, description.hints_by_ref.as_flattened())
+            .lending(Role::PRESENT, self.present)
+            .lending(Role::FRAME, lent(FRAME_LEN))
+    }
+
+    /// Frame setup with its answer, and how much to lend for an accepted frame.
+    pub fn put(&self, list: &mut List) -> Result<(), String> {
+        let refusal = self.answer();
+        if refusal != 0 {
+            list.put(self.setup(), Answer::of(refusal));
+            return Ok(());
+        }
+        let (record, finished) = (self.record()?, self.finished()?);
+        let set_up = Answer::of(0).leaving(Role::FRAME, frame_bytes(&record));
+        list.put(self.setup(), set_up);
+        let saved = (record.stride * record.ih8) as usize;
+        let sizes = [saved, finished.projection, finished.records];
+        let sizes = sizes.map(|cells| (cells as u32).to_le_bytes()).concat();
+        let listed = Question::on(Function::ListedSizes, &record, [0; 0])
+            .lending(Role::SIZES, lent(sizes.len()));
+        list.put(listed, Answer::of(0).leaving(Role::SIZES, sizes));
+        Ok(())
     }
 
     /// The paper's answer to frame setup.

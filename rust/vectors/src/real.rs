@@ -1,7 +1,7 @@
 //! Real frames, `real/frames.bin`, with what a traced decoder made of them.
 
 use crate::damage::SKIPPED;
-use crate::list;
+use crate::files;
 use crate::question::FrameQuestion;
 use crate::sequences;
 use oracle::frame::Description;
@@ -34,7 +34,7 @@ pub fn take(folder: &Path) -> Result<(), String> {
     for frame in &frames {
         bytes.extend(shortened(frame));
     }
-    list::write(Path::new(FILE), &bytes)?;
+    files::write(Path::new(FILE), &bytes)?;
     println!("{count} frames taken");
     Ok(())
 }
@@ -49,7 +49,7 @@ fn shortened(event: &[u8; sequences::FRAME_LEN]) -> Vec<u8> {
 }
 
 pub fn frames() -> Result<Vec<RealFrame>, String> {
-    let bytes = list::read(Path::new(FILE))?;
+    let bytes = files::read(Path::new(FILE))?;
     let malformed = || format!("{FILE} is malformed");
     let (count, frames) = bytes
         .strip_prefix(MAGIC)

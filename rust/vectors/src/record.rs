@@ -1,7 +1,13 @@
+//! Block records, and the lengths of records and cells.
+
 use crate::leaf::vector_bytes;
 use crate::split_mix::SplitMix64;
 use oracle::leaves::Record;
 use oracle::leaves::Vector;
+
+pub const RECORD_LEN: u32 = 12;
+
+pub const CELL_LEN: u32 = 5;
 
 /// A well-formed record.
 pub const PLAIN: Record = Record {

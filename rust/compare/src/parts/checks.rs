@@ -2,6 +2,7 @@
 
 use crate::codec;
 use crate::frames;
+use crate::names;
 use crate::options::Options;
 use crate::tally::Tally;
 use jaskkovir::calls;
@@ -14,7 +15,7 @@ use oracle::paper::FrameRecord;
 const MORE: usize = 4;
 
 pub fn compare(options: &Options) -> Result<Tally, String> {
-    let mut random = options.random("check");
+    let mut random = options.random(names::CHECK);
     let mut tally = Tally::default();
     for _ in 0..options.cases(200_000, 4_000_000) {
         let record = frames::record(&mut random, frames::WHOLE);

@@ -26,7 +26,7 @@ pub fn compare(_: &Options) -> Result<Tally, String> {
 fn compiler() -> Command {
     let mut gcc = Command::new("gcc");
     gcc.args(["-std=c11", "-Wall", "-Wextra", "-Werror", "-Iinclude"]);
-    gcc.args(["examples/first_frame.c", "target/staticlib/libabi.a"]);
+    gcc.args(["examples/first_frame.c", "target/staticlib/libjaskkovir.a"]);
     gcc.args(["-o", PROGRAM]);
     gcc
 }

@@ -2,6 +2,7 @@
 
 use crate::codec;
 use crate::found::Left;
+use crate::names;
 use crate::options::Extent;
 use crate::options::Options;
 use crate::tally::Tally;
@@ -25,7 +26,7 @@ pub fn compare(options: &Options) -> Result<Tally, String> {
     };
     // The paper and the Rust come to what was traced.
     found::check(folder)?;
-    let mut random = options.random(super::FINDS);
+    let mut random = options.random(names::FINDS);
     let mut tally = Tally::default();
     let files = finds::files(folder)?;
     for path in &files {

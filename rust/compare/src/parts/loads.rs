@@ -4,6 +4,7 @@
 use crate::codec;
 use crate::fields;
 use crate::frames;
+use crate::names;
 use crate::options::Options;
 use crate::tally::Tally;
 use crate::windows;
@@ -21,7 +22,7 @@ const CELL_LEN: usize = 5;
 const MORE: usize = 13;
 
 pub fn compare(options: &Options) -> Result<Tally, String> {
-    let mut random = options.random("load");
+    let mut random = options.random(names::LOAD);
     let mut tally = Tally::default();
     for i in 0..options.cases(2_000, 40_000) {
         let limits = match i % 200 {

@@ -6,6 +6,7 @@ mod example;
 mod finds;
 mod jobs;
 mod leaves;
+mod list;
 mod loads;
 mod rows;
 mod saves;
@@ -15,38 +16,41 @@ mod setups;
 mod shorts;
 mod splats;
 
+use crate::names;
 use crate::options::Options;
 use crate::tally::Tally;
 
-pub use rows::table as row_table;
-
 pub type Part = fn(&Options) -> Result<Tally, String>;
 
-pub const SEQUENCES: &str = "sequences";
-
-pub const CAPTURES: &str = "captures";
-
-pub const FINDS: &str = "finds";
-
 /// All parts, in the order in which they run.
-pub fn all() -> impl Iterator<Item = (&'static str, Part)> {
-    let parts: Vec<(&'static str, Part)> = vec![
-        ("projection", leaves::projection),
-        ("precision", leaves::precision),
-        ("distance", leaves::distance),
-        ("setup", setups::compare),
-        ("check", checks::compare),
-        ("rows", rows::compare),
-        ("splat", splats::compare),
-        ("save", saves::compare),
-        ("load", loads::compare),
-        ("jobs", jobs::compare),
-        ("search", searches::compare),
-        ("shorts", shorts::compare),
-        (CAPTURES, captures::compare),
-        (FINDS, finds::compare),
-        (SEQUENCES, sequences::compare),
-        ("example", example::compare),
-    ];
-    parts.into_iter()
+pub fn all() -> [(&'static str, Part); names::ALL.len()] {
+    [
+        (names::PROJECTION, leaves::projection),
+        (names::PRECISION, leaves::precision),
+        (names::DISTANCE, leaves::distance),
+        (names::SETUP, setups::compare),
+        (names::CHECK, checks::compare),
+        (names::ROWS, rows::compare),
+        (names::SPLAT, splats::compare),
+        (names::SAVE, saves::compare),
+        (names::LOAD, loads::compare),
+        (names::JOBS, jobs::compare),
+        (names::SEARCH, searches::compare),
+        (names::SHORTS, shorts::compare),
+        (names::CAPTURES, captures::compare),
+        (names::FINDS, finds::compare),
+        (names::SEQUENCES, sequences::compare),
+        (names::LIST, list::compare),
+        (names::EXAMPLE, example::compare),
+    ]
+}
+
+#[cfg(test)]
+mod tests {
+    use super::*;
+
+    #[test]
+    fn every_name_has_its_part() {
+        assert_eq!(all().map(|(name, _)| name), names::ALL);
+    }
 }

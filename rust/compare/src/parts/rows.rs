@@ -3,7 +3,9 @@
 use crate::codec;
 use crate::frames;
 use crate::frames::cut;
+use crate::names;
 use crate::options::Options;
+use crate::tables::table;
 use crate::tally::Tally;
 use jaskkovir::calls;
 use jaskkovir::calls::Row;
@@ -13,17 +15,13 @@ use oracle::paper;
 use oracle::paper::FrameRecord;
 use oracle::rows::Place;
 use oracle::rows::Prepared;
-use oracle::rows::Table;
 use shared::split_mix::SplitMix64;
 
 /// The most bytes lent behind the tile.
 const MORE: usize = 4;
 
-/// The Rust multiplies a superblock row's number by up to 32 in 32 bits.
-const ROWS_ASKED: usize = 1 << 24;
-
 pub fn compare(options: &Options) -> Result<Tally, String> {
-    let mut random = options.random("rows");
+    let mut random = options.random(names::ROWS);
     let mut tally = Tally::default();
     for _ in 0..options.cases(50_000, 1_000_000) {
         let mut record = frames::record(&mut random, frames::WHOLE);
@@ -90,25 +88,6 @@ fn place(row: &Row) -> Place {
         tile_row: cut(row.tile_row),
         pass: cut(row.pass),
     }
-}
-
-/// The Rust's table for an accepted row. Its numbers have 31 bits: larger ones of the port are asked
-/// as the largest, and of a far superblock row only the parity.
-pub fn table(rust: &Prepared, row: &Row) -> Result<Table, String> {
-    let fit = |number: usize| number.min(i32::MAX as usize) as u32;
-    let parity = row.superblock_row % 2;
-    let near = row.superblock_row < ROWS_ASKED;
-    let place = Place {
-        col_start: fit(row.col_start),
-        col_end: fit(row.col_end),
-        row_start: fit(row.row_start),
-        row_end: fit(row.row_end),
-        superblock_row: fit(if near { row.superblock_row } else { parity }),
-        tile_row: fit(row.tile_row),
-        pass: fit(row.pass),
-    };
-    let table = rust.setup(&place).gave();
-    table.ok_or_else(|| format!("the Rust panicked: {row:?}"))
 }
 
 /// Most rows are accepted. At most one number is past 32 bits.

@@ -3,6 +3,7 @@
 use crate::codec;
 use crate::frames;
 use crate::frames::cut;
+use crate::names;
 use crate::options::Options;
 use crate::tally::Tally;
 use crate::windows;
@@ -26,7 +27,7 @@ const MORE: usize = 17;
 const ROWS_ASKED: usize = 1 << 24;
 
 pub fn compare(options: &Options) -> Result<Tally, String> {
-    let mut random = options.random("save");
+    let mut random = options.random(names::SAVE);
     let mut tally = Tally::default();
     for i in 0..options.cases(2_000, 40_000) {
         let limits = match i % 200 {

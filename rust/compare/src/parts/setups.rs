@@ -2,6 +2,7 @@
 
 use crate::codec;
 use crate::frames;
+use crate::names;
 use crate::options::Options;
 use crate::tally::Tally;
 use cases::frames::Question;
@@ -16,7 +17,7 @@ use shared::split_mix::SplitMix64;
 const MORE: usize = 8;
 
 pub fn compare(options: &Options) -> Result<Tally, String> {
-    let mut random = options.random("setup");
+    let mut random = options.random(names::SETUP);
     let mut tally = Tally::default();
     for _ in 0..options.cases(1_000_000, 20_000_000) {
         let mut question = frames::question(&mut random, frames::WHOLE);

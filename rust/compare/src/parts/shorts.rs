@@ -2,6 +2,7 @@
 
 use crate::codec;
 use crate::frames;
+use crate::names;
 use crate::options::Options;
 use crate::tally::Tally;
 use cases::records;
@@ -29,7 +30,7 @@ use shared::split_mix::SplitMix64;
 
 /// Each length of each part, with the others whole; the numbers are anything.
 pub fn compare(options: &Options) -> Result<Tally, String> {
-    let mut random = options.random("shorts");
+    let mut random = options.random(names::SHORTS);
     let mut tally = Tally::default();
     for _ in 0..options.cases(200, 4_000) {
         init_frame(&mut random, &mut tally);

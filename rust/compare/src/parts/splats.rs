@@ -3,8 +3,9 @@
 use crate::codec;
 use crate::frames;
 use crate::frames::cut;
+use crate::names;
 use crate::options::Options;
-use crate::parts::rows;
+use crate::tables::table;
 use crate::tally::Tally;
 use cases::records;
 use jaskkovir::calls;
@@ -26,7 +27,7 @@ const RECORD_LEN: usize = 12;
 const MORE: usize = 29;
 
 pub fn compare(options: &Options) -> Result<Tally, String> {
-    let mut random = options.random("splat");
+    let mut random = options.random(names::SPLAT);
     let mut tally = Tally::default();
     for i in 0..options.cases(2_000, 40_000) {
         let limits = match i % 200 {
@@ -92,7 +93,7 @@ impl Run {
 
     /// Sets up a row, and changes some of the tile's numbers in some.
     fn turn_to(&mut self, random: &mut SplitMix64, row: &Row) -> Result<(), String> {
-        let table = rows::table(&self.rust_rows, row)?;
+        let table = table(&self.rust_rows, row)?;
         self.tile = codec::tile_bytes(&table, [row.col_start, row.row_start].map(cut));
         if random.below(4) == 0 {
             self.change_tile(random);

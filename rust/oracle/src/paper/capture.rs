@@ -3,9 +3,9 @@
 use super::jobs::batch_is_fine;
 use super::setup_answer;
 use super::Job;
-use super::CELL_LEN;
-use super::RECORD_LEN;
 use crate::frame::Description;
+use crate::kept::CELL_LEN;
+use crate::kept::RECORD_LEN;
 use crate::Window;
 use std::collections::HashSet;
 use std::ops::RangeInclusive;

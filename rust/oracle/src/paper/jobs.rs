@@ -1,13 +1,15 @@
+//! Jobs: a batch and its steps.
+
+use super::frame::record_answer;
+use super::frame::tile_row;
+use super::frame::window_is_fine;
+use super::frame::FLAG;
+use super::load::load_answer;
 use super::load::sources_are_fine;
 use super::load::used;
-use super::load_answer;
-use super::record_answer;
-use super::save_answer;
-use super::tile_row;
-use super::window_is_fine;
-use super::FrameRecord;
-use super::FLAG;
-use crate::save::Place;
+use super::save::save_answer;
+use crate::asked::SavePlace;
+use crate::kept::FrameRecord;
 use crate::Window;
 
 /// What a finished job's step answers: neither 0 nor a refusal.
@@ -26,8 +28,8 @@ pub struct Job {
 
 impl Job {
     /// What a save covers, and whose row table it reads.
-    pub fn place(&self) -> Place {
-        Place {
+    pub fn place(&self) -> SavePlace {
+        SavePlace {
             window: self.window,
             superblock_row: self.superblock_row,
             pass: self.pass,

@@ -1,9 +1,11 @@
-use super::record_answer;
-use super::saved_cells;
-use super::window_is_fine;
-use super::FrameRecord;
-use super::CELL_LEN;
-use super::FLAG;
+//! Load.
+
+use super::frame::record_answer;
+use super::frame::window_is_fine;
+use super::frame::FLAG;
+use crate::kept::saved_cells;
+use crate::kept::FrameRecord;
+use crate::kept::CELL_LEN;
 use crate::Window;
 
 /// Load: 1, 3, then 4 for the listed sizes, then 5, then read by read 7. A reference whose present

@@ -1,17 +1,19 @@
-use super::listed_records;
-use super::record_answer;
-use super::record_is_well_formed;
-use super::row_entries;
-use super::saved_cells;
+//! Save.
+
+use super::frame::record_answer;
+use super::frame::window_is_fine;
 use super::sizes::SIDES_OF;
-use super::window_is_fine;
-use super::FrameRecord;
-use super::CELL_LEN;
-use super::RECORD_LEN;
-use crate::save::Place;
+use super::splat::record_is_well_formed;
+use super::table::row_entries;
+use crate::asked::SavePlace;
+use crate::kept::listed_records;
+use crate::kept::saved_cells;
+use crate::kept::FrameRecord;
+use crate::kept::CELL_LEN;
+use crate::kept::RECORD_LEN;
 
 /// Save: 12, 1, 3, then 4 for the listed sizes, then read by read 6, 4, 8 and 9.
-pub fn save_answer(record: &FrameRecord, place: &Place, records: &[u8], field_len: u64) -> u8 {
+pub fn save_answer(record: &FrameRecord, place: &SavePlace, records: &[u8], field_len: u64) -> u8 {
     if ![1, 2].contains(&place.pass) {
         return 12;
     }
@@ -43,7 +45,7 @@ struct Reads<'a> {
 }
 
 impl<'a> Reads<'a> {
-    fn new(record: &FrameRecord, place: &Place, records: &'a [u8]) -> Self {
+    fn new(record: &FrameRecord, place: &SavePlace, records: &'a [u8]) -> Self {
         let window = &place.window;
         let col_end = window.col_end.min(record.iw8);
         Self {

@@ -1,3 +1,5 @@
+//! Sizes of blocks.
+
 /// Width and height in 4-sample units by size code, read off the names.
 pub(super) const SIDES_OF: [[u32; 2]; 22] = [
     [32, 32],

@@ -1,5 +1,7 @@
-use super::tile_row;
-use super::FrameRecord;
+//! The row table that superblock-row setup gives.
+
+use super::frame::tile_row;
+use crate::kept::FrameRecord;
 
 /// A tile row has the rows of its superblock row, 32 of them for the larger size, and three above.
 const ROWS: u64 = 35;

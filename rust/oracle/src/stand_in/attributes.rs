@@ -1,3 +1,5 @@
+//! Stand-in for `include/common/attributes.rs`: two counts of leading zeros.
+
 use std::ffi::c_int;
 use std::ffi::c_uint;
 use std::ffi::c_ulonglong;

@@ -1,3 +1,5 @@
+//! Stand-in for `include/common/bitdepth.rs`: the casts that clipping names.
+
 use std::ffi::c_int;
 
 /// A number that `as` takes to a `T`.

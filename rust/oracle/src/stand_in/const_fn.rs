@@ -1,3 +1,5 @@
+//! Stand-in for `src/const_fn.rs`.
+
 /// A `for` loop over a range that may stand in a `const fn`.
 macro_rules! const_for {
     ($at:ident in $range:expr => $body:block) => {{

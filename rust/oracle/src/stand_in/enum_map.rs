@@ -1,3 +1,5 @@
+//! Stand-in for `src/enum_map.rs`.
+
 /// A default that may stand in a `const`.
 pub trait DefaultValue {
     const DEFAULT: Self;

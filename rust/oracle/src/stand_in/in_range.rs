@@ -1,3 +1,5 @@
+//! Stand-in for `src/in_range.rs`.
+
 use std::fmt;
 use std::fmt::Display;
 use std::fmt::Formatter;

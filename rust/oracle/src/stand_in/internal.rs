@@ -1,3 +1,5 @@
+//! Stand-in for `src/internal.rs`: the one type that the supplied files need of it.
+
 use std::ffi::c_int;
 
 /// As `src/internal.rs` declares it.

@@ -1,3 +1,5 @@
+//! Stand-in for `src/tables.rs`: blocks' dimensions by their names, and the identity warp.
+
 use crate::include::dav1d::headers::Rav1dWarpedMotionParams;
 use crate::include::dav1d::headers::Rav1dWarpedMotionType;
 use crate::src::levels::BlockSize;

@@ -1,3 +1,8 @@
+//! A capture file that is made from its parts.
+
+use crate::job::bytes::byte;
+use crate::job::bytes::captured;
+use crate::job::bytes::half;
 use crate::job::load;
 use crate::load::edges::cell;
 use crate::load::edges::window;
@@ -57,7 +62,7 @@ impl Made {
     }
 
     pub fn parts(&self) -> Vec<Part> {
-        let jobs = self.jobs.iter().flat_map(job_bytes).collect();
+        let jobs = self.jobs.iter().flat_map(captured).collect();
         let mut parts = vec![(1, body(&self.description)), (2, jobs)];
         parts.extend(self.records.clone().map(|records| (4, records)));
         for (kind, field) in (FIRST_FIELD..).zip(&self.fields) {
@@ -89,25 +94,6 @@ fn body(description: &Description) -> Vec<u8> {
     ];
     bytes.extend(behind.map(byte));
     bytes
-}
-
-fn job_bytes(job: &Job) -> Vec<u8> {
-    let [tile_row, columns @ .., row_start, row_end] = job.window.numbers();
-    let halves = [columns, [row_start, row_end]].concat();
-    let mut bytes = vec![job.kind, byte(tile_row)];
-    bytes.extend(halves.into_iter().flat_map(half));
-    bytes.extend(half(job.superblock_row));
-    bytes.push(byte(job.pass));
-    bytes
-}
-
-fn half(number: u32) -> [u8; 2] {
-    let number: u16 = number.try_into().expect("the number fits its field");
-    number.to_le_bytes()
-}
-
-fn byte(number: u32) -> u8 {
-    number.try_into().expect("the number fits its field")
 }
 
 #[cfg(test)]

@@ -1,3 +1,12 @@
+//! A search.
+
+use crate::list::Answer as Answered;
+use crate::list::Case;
+use crate::list::Function;
+use crate::list::List;
+use crate::list::Question;
+use cases::codec::ask_bytes;
+use cases::codec::tile_bytes;
 use cases::found::unread;
 use cases::judge::fixes_the_same;
 use cases::real;
@@ -10,6 +19,10 @@ use oracle::search;
 use oracle::search::Answer;
 use oracle::search::Ask;
 use oracle::search::Prepared;
+use oracle::search::SLOTS;
+use oracle::search::SLOT_LEN;
+use shared::desk::lent;
+use shared::desk::Role;
 
 pub const RECORD_LEN: usize = 12;
 pub const CELL_LEN: usize = 5;
@@ -28,7 +41,7 @@ const ILL: u8 = 255;
 /// Places and what stands there.
 pub type Patches<const N: usize> = Vec<(u32, [u8; N])>;
 
-/// A search in lent bytes: 943 bytes.
+/// A search in lent bytes.
 #[derive(Clone)]
 pub struct FindQuestion {
     pub record: FrameRecord,
@@ -105,6 +118,34 @@ impl FindQuestion {
             patched(records, record, &self.records),
             patched(cells, cell, &self.cells),
         ]
+    }
+}
+
+impl Case for FindQuestion {
+    fn put(&self, list: &mut List) -> Result<(), String> {
+        let [records, projection] = self.buffers([ILL; RECORD_LEN], [ILL; CELL_LEN]);
+        let mut stack = [0; SLOTS * SLOT_LEN];
+        stack.copy_from_slice(&lent(SLOTS * SLOT_LEN));
+        let question = Question::on(Function::Find, &self.record, [0; 0])
+            .lending(Role::TILE, tile_bytes(&self.table))
+            .lending(Role::RECORDS, records)
+            .lending(Role::PROJECTION, projection)
+            .lending(Role::ASK, ask_bytes(&self.ask))
+            .lending(Role::STACK, stack)
+            .lending(Role::FOUND, lent(2));
+        let answer = match (self.searched(), &self.traced) {
+            (Ok(searched), _) => {
+                let found = self.found(&searched)?;
+                found.lay(self.ask.is_compound(), &mut stack);
+                Answered::of(0)
+                    .leaving(Role::STACK, stack)
+                    .leaving(Role::FOUND, [found.count, found.context])
+            }
+            (Err(refusal), None) => Answered::of(refusal),
+            (Err(refusal), Some(_)) => return Err(format!("a real one refused with {refusal}")),
+        };
+        list.put(question, answer);
+        Ok(())
     }
 }
 

@@ -15,28 +15,18 @@ use oracle::paper::Lent;
 /// The most bytes lent behind the listed ones.
 const MORE: u32 = 17;
 
-/// Accepted searches, and how many there were that read too much for the list.
-#[derive(Default)]
-pub struct Drawn {
-    pub questions: Vec<FindQuestion>,
-    pub too_large: usize,
-}
-
-pub fn questions(random: &mut SplitMix64, count: usize) -> Result<Drawn, String> {
-    let mut drawn = Drawn::default();
-    while drawn.questions.len() < count {
+/// Accepted searches. Those that read too much for the list are left out.
+pub fn questions(random: &mut SplitMix64, count: usize) -> Result<Vec<FindQuestion>, String> {
+    let mut questions = Vec::new();
+    while questions.len() < count {
         let record = small(random);
         let mut scene = Scene::new(random, record)?;
         if random.below(5) == 0 {
             scene.roughen(random);
         }
-        match question(random, &scene) {
-            Some(question) if question.fits() => drawn.questions.push(question),
-            Some(_) => drawn.too_large += 1,
-            None => {}
-        }
+        questions.extend(question(random, &scene).filter(FindQuestion::fits));
     }
-    Ok(drawn)
+    Ok(questions)
 }
 
 /// A frame whose buffers fit the list.

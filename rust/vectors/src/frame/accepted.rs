@@ -1,3 +1,5 @@
+//! Frames that are accepted.
+
 use crate::question::FrameQuestion;
 use crate::split_mix::SplitMix64;
 use oracle::frame::Description;

@@ -1,3 +1,5 @@
+//! Finished frame records with a field at its limits.
+
 use crate::damage::size_field;
 use crate::damage::Damage;
 use crate::damage::Kind;

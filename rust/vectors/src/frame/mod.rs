@@ -1,4 +1,4 @@
-//! Frame setup, and the check of a finished frame record.
+//! Frame setup, the listed sizes, and the check of a finished frame record.
 
 mod accepted;
 mod damaged;
@@ -6,15 +6,16 @@ mod refused;
 
 use crate::damage::Damage;
 use crate::list;
+use crate::list::Answer;
+use crate::list::Function;
 use crate::list::List;
+use crate::list::Question;
 use crate::list::SEED;
 use crate::question::FrameQuestion;
 use crate::real;
 use crate::real::RealFrame;
 use crate::split_mix::SplitMix64;
-use oracle::frame::Finished;
 use oracle::paper;
-use oracle::paper::FrameRecord;
 
 struct Case {
     question: FrameQuestion,
@@ -28,15 +29,10 @@ impl From<FrameQuestion> for Case {
     }
 }
 
-pub fn list() -> Result<List, String> {
+pub fn put(list: &mut List) -> Result<(), String> {
     let real = real::frames()?;
     compare(&real)?;
-    let mut list = List::new("frame", &cases(&real)?)?;
-    list.summary += &format!(
-        ", {} real frames as the traced decoder had them",
-        real.len()
-    );
-    Ok(list)
+    list.put_all("frames", &cases(&real)?)
 }
 
 fn cases(real: &[RealFrame]) -> Result<Vec<Case>, String> {
@@ -65,62 +61,21 @@ fn compare(real: &[RealFrame]) -> Result<(), String> {
 }
 
 impl list::Case for Case {
-    const LEN: usize = FrameQuestion::LEN + Damage::LEN;
-
-    fn bytes(&self) -> Vec<u8> {
-        [self.question.bytes(), self.damage.bytes()].concat()
-    }
-
-    fn answer(&self) -> Result<String, String> {
-        let refusal = self.question.answer();
-        if refusal != 0 {
-            return Ok(refusal.to_string());
-        }
-        let mut record = self.question.record()?;
+    fn put(&self, list: &mut List) -> Result<(), String> {
+        self.question.put(list)?;
         if self.damage.is_none() {
-            return Ok(line(&record, &self.question.finished()?));
+            return Ok(());
         }
-        self.damage.apply(&mut record);
-        Ok(format!("check {}", paper::record_answer(&record)))
+        let record = self.damage.on(self.question.record()?);
+        let question = Question::on(Function::Check, &record, [0; 0]);
+        list.put(question, Answer::of(paper::record_answer(&record)));
+        Ok(())
     }
-
-    fn label(answer: &str) -> &str {
-        if answer.starts_with("check") {
-            answer
-        } else {
-            &answer[..1]
-        }
-    }
-}
-
-fn line(record: &FrameRecord, finished: &Finished) -> String {
-    let mut words = vec![0.to_string()];
-    words.extend(record.sizes().map(|number| number.to_string()));
-    words.extend([record.use_ref_frame_mvs, record.temporal].map(|flag| flag.to_string()));
-    for fields in &record.hints {
-        words.extend([fields.sign_bias, fields.mfmv_sign].map(|flag| flag.to_string()));
-        words.push(fields.pocdiff.to_string());
-    }
-    words.push(record.n_mfmvs.to_string());
-    for slot in &record.slots {
-        words.push(slot.reference.to_string());
-        let skipped = "-".to_string();
-        words.push(
-            slot.ref2cur
-                .map_or(skipped, |distance| distance.to_string()),
-        );
-        words.extend(slot.ref2ref.map(|distance| distance.to_string()));
-    }
-    let saved = record.stride * record.ih8;
-    words.push(saved.to_string());
-    words.extend([finished.projection, finished.records].map(|cells| cells.to_string()));
-    words.join(" ")
 }
 
 #[cfg(test)]
 mod tests {
     use super::*;
-    use crate::list::Case as _;
     use std::collections::HashSet;
 
     /// The accepted questions without damage, each once.
@@ -130,7 +85,7 @@ mod tests {
         cases
             .iter()
             .filter(|case| case.damage.is_none() && case.question.answer() == 0)
-            .filter(|case| seen.insert(case.bytes()))
+            .filter(|case| seen.insert(case.question.setup().key()))
             .map(|case| case.question)
             .collect()
     }
@@ -138,7 +93,6 @@ mod tests {
     #[test]
     fn the_list_has_its_size() {
         assert!(accepted().len() >= 1000);
-        assert!(list().unwrap().questions.len() < 250_000);
     }
 
     #[test]

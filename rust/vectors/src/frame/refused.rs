@@ -1,3 +1,5 @@
+//! Frames at the limits of what is accepted.
+
 use crate::question::FrameQuestion;
 use oracle::frame::Description;
 

@@ -1,7 +1,6 @@
 //! Two jobs whose windows share a cell or only touch, stepped in both orders.
 
 use crate::job::load;
-use crate::job::orders::Task;
 use crate::job::question::JobQuestion;
 use crate::job::save;
 use crate::load::edges::cell_moved;
@@ -13,6 +12,7 @@ use crate::save::block;
 use oracle::leaves::Record;
 use oracle::paper::Job;
 use oracle::Window;
+use shared::orders::Task;
 
 pub fn questions() -> Vec<JobQuestion> {
     let mut questions = loads();

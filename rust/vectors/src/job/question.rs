@@ -1,27 +1,23 @@
-use crate::cells;
-use crate::cells::CELL_LEN;
+//! A batch of jobs, with what is done with it.
+
 use crate::damage::Damage;
-use crate::job::orders::Task;
 use crate::load::question::FieldLen;
-use crate::load::question::MOST_FIELD;
-use crate::load::question::MOST_PROJECTION;
 use crate::question::FrameQuestion;
+use crate::record::CELL_LEN;
+use crate::record::RECORD_LEN;
 use oracle::jobs::Prepared;
 use oracle::paper;
 use oracle::paper::FrameRecord;
 use oracle::paper::Handed;
 use oracle::paper::Job;
+use shared::desk::lent;
+use shared::orders::Task;
 use std::array;
 
 /// The number of the records' buffer; those below are the fields'.
 pub const RECORDS: u32 = 7;
 
-const RECORD_LEN: u32 = 12;
-
-/// The most bytes that a case lends as records.
-const MOST_RECORDS: u32 = 60_000;
-
-/// A batch on a frame, whose record may be damaged: 444 bytes, and 24 for each patch.
+/// A batch on a frame, whose record may be damaged.
 #[derive(Clone)]
 pub struct JobQuestion {
     pub frame: FrameQuestion,
@@ -32,7 +28,6 @@ pub struct JobQuestion {
     pub projection_len: u32,
     pub saved_len: u32,
     pub field: FieldLen,
-    /// A case holds the first eight, whatever their number.
     pub jobs: Vec<Job>,
     pub task: Task,
     pub patches: Vec<Patch>,
@@ -122,30 +117,25 @@ impl JobQuestion {
         CELL_LEN * self.stride() * self.frame.description.height.div_ceil(8)
     }
 
-    /// Whether the case keeps to what its list promises.
-    pub fn check(&self) -> Result<(), String> {
-        if self.frame.answer() != 0 {
-            return Err("the frame itself is refused".to_string());
-        }
-        let fields = [self.listed(), self.field.len, self.saved_len];
-        if fields.into_iter().any(|len| len > MOST_FIELD)
-            || self.projection_len > MOST_PROJECTION
-            || self.records_len > MOST_RECORDS
-        {
-            return Err("a buffer is too long".to_string());
-        }
-        Ok(())
-    }
-
     /// The frame's record after the damage.
     pub fn record(&self) -> Result<FrameRecord, String> {
-        let mut record = self.frame.record()?;
-        self.damage.apply(&mut record);
-        Ok(record)
+        Ok(self.damage.on(self.frame.record()?))
+    }
+
+    /// How many steps each job has.
+    pub fn counts(&self) -> Result<Vec<u32>, String> {
+        let record = self.record()?;
+        let steps = |job| paper::steps(&record, job);
+        Ok(self.jobs.iter().map(steps).collect())
+    }
+
+    /// The paper's answer.
+    pub fn refusal(&self) -> Result<u8, String> {
+        self.ask(|handed| paper::batch_answer(handed, &self.jobs))
     }
 
     /// The lent fields, zero but for the patches.
-    fn fields(&self) -> [Vec<u8>; 7] {
+    pub fn fields(&self) -> [Vec<u8>; 7] {
         array::from_fn(|at| {
             let len = match self.field.field == at as u32 {
                 true => self.field.len,
@@ -156,7 +146,7 @@ impl JobQuestion {
     }
 
     /// The lent records, zero but for the patches.
-    fn records(&self) -> Vec<u8> {
+    pub fn records(&self) -> Vec<u8> {
         self.filled::<12>(RECORDS, self.records_len)
     }
 
@@ -187,8 +177,8 @@ impl JobQuestion {
     /// The buffers before any job.
     pub fn lent(&self) -> Written {
         Written {
-            projection: cells::lent(self.projection_len),
-            saved: cells::lent(self.saved_len),
+            projection: lent(self.projection_len as usize),
+            saved: lent(self.saved_len as usize),
         }
     }
 
@@ -207,13 +197,5 @@ impl JobQuestion {
         }
         run.take(projection, saved);
         Ok(written)
-    }
-}
-
-impl Written {
-    pub fn change_words(&self, lent: &Self) -> Vec<String> {
-        let projected = cells::change_words(&lent.projection, &self.projection);
-        let saved = cells::change_words(&lent.saved, &self.saved);
-        [projected, saved].concat()
     }
 }

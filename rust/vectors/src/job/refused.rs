@@ -2,7 +2,6 @@
 
 use crate::damage::Damage;
 use crate::job::load;
-use crate::job::orders::Task;
 use crate::job::question::JobQuestion;
 use crate::job::save;
 use crate::load::edges::cell;
@@ -14,6 +13,7 @@ use crate::save::block;
 use oracle::leaves::Record;
 use oracle::leaves::Vector;
 use oracle::paper;
+use shared::orders::Task;
 
 /// Something that a batch is refused for, put into one of its jobs.
 type Fault = fn(&mut JobQuestion, usize);
@@ -206,8 +206,7 @@ mod tests {
                 fault(batch, job);
             }
         });
-        let asked = question.ask(|handed| paper::batch_answer(handed, &question.jobs));
-        asked.unwrap()
+        question.refusal().unwrap()
     }
 
     #[test]

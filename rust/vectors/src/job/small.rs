@@ -1,7 +1,6 @@
 //! Three jobs of three steps each, of which every order is tried.
 
 use crate::job::load;
-use crate::job::orders::Task;
 use crate::job::question::JobQuestion;
 use crate::job::save;
 use crate::load::edges::cell;
@@ -11,6 +10,7 @@ use crate::save::block;
 use crate::split_mix::SplitMix64;
 use oracle::leaves::Vector;
 use oracle::paper::Job;
+use shared::orders::Task;
 
 pub fn questions(random: &mut SplitMix64) -> Vec<JobQuestion> {
     let two_tiles = two_references().with(|frame| {

@@ -1,7 +1,6 @@
 //! Eight jobs on frames of real streams, in drawn orders.
 
 use crate::job::load;
-use crate::job::orders::Task;
 use crate::job::question::JobQuestion;
 use crate::job::save;
 use crate::load::edges::window;
@@ -14,6 +13,7 @@ use oracle::paper::FrameRecord;
 use oracle::paper::Job;
 use oracle::Window;
 use shared::folder;
+use shared::orders::Task;
 use std::collections::HashMap;
 use std::path::Path;
 

@@ -1,9 +1,16 @@
+//! A question of one of the small functions at the bottom, with the Rust's answer.
+
 use crate::list;
+use crate::list::Answer;
+use crate::list::Function;
+use crate::list::List;
+use crate::list::Question;
 use oracle::leaves;
 use oracle::leaves::Cell;
 use oracle::leaves::Record;
 use oracle::leaves::Size;
 use oracle::leaves::Vector;
+use shared::desk::Role;
 
 /// One question, inside the domain of the port.
 #[derive(Clone, Copy)]
@@ -17,72 +24,66 @@ pub enum Case {
 }
 
 impl Case {
-    fn kind(self) -> u8 {
+    pub fn question(self) -> Question {
         match self {
-            Self::Projection { .. } => 1,
-            Self::Precision { .. } => 2,
-            Self::Distance { .. } => 3,
-            Self::Cell(_) => 4,
-            Self::Record(_) => 5,
-            Self::Negation(_) => 6,
+            Self::Projection { mv, num, den } => {
+                let numbers = [mv.y, mv.x, num.into(), den.into()];
+                Question::new(Function::MvProjection, numbers)
+            }
+            Self::Precision { mv, integer, hp } => {
+                let numbers = [mv.y, mv.x, integer.into(), hp.into()];
+                Question::new(Function::FixMvPrecision, numbers)
+            }
+            Self::Distance { bits, a, b } => Question::new(Function::GetPocDiff, [bits, a, b]),
+            Self::Cell(bytes) => Question::read(Function::ReadCell, bytes),
+            Self::Record(bytes) => Question::read(Function::ReadRecord, bytes),
+            Self::Negation(mv) => Question::new(Function::Negated, [mv.y, mv.x]),
         }
     }
 
     /// The Rust's answer, or nothing where the Rust gives none.
-    fn numbers(self) -> Option<String> {
+    fn answer(self) -> Option<Vec<i64>> {
         Some(match self {
             Self::Projection { mv, num, den } => {
                 let mv = leaves::project(mv.y, mv.x, num.into(), den.into()).gave()?;
-                words([mv.y, mv.x])
+                numbers([mv.y, mv.x])
             }
             Self::Precision { mv, integer, hp } => {
                 let mv = leaves::lower(mv.y, mv.x, integer, hp).gave()?;
-                words([mv.y, mv.x])
+                numbers([mv.y, mv.x])
             }
             Self::Distance { bits, a, b } => {
-                words([leaves::distance(bits, a.into(), b.into()).gave()?])
+                numbers([leaves::distance(bits, a.into(), b.into()).gave()?])
             }
             Self::Cell(bytes) => {
                 let Cell { mv, reference } = leaves::cell(bytes);
                 let invalid = leaves::is_invalid(mv.y, mv.x);
-                words([mv.y, mv.x, reference.into(), invalid.into()])
+                numbers([mv.y, mv.x, reference.into(), invalid.into()])
             }
-            Self::Record(bytes) => record_words(leaves::record(bytes)?)?,
+            Self::Record(bytes) => record_numbers(leaves::record(bytes)?)?,
             Self::Negation(mv) => {
                 let mv = leaves::negate(mv.y, mv.x).gave()?;
-                words([mv.y, mv.x])
+                numbers([mv.y, mv.x])
             }
         })
     }
 }
 
-impl list::Case for Case {
-    const LEN: usize = 16;
-
-    /// Kind, payload, zeros.
-    fn bytes(&self) -> Vec<u8> {
-        let mut bytes = vec![self.kind()];
-        match *self {
-            Self::Projection { mv, num, den } => {
-                bytes.extend(vector_bytes(mv));
-                bytes.extend([num as u8, den]);
-            }
-            Self::Precision { mv, integer, hp } => {
-                bytes.extend(vector_bytes(mv));
-                bytes.extend([integer, hp].map(u8::from));
-            }
-            Self::Distance { bits, a, b } => bytes.extend([bits, a, b]),
-            Self::Cell(cell) => bytes.extend(cell),
-            Self::Record(record) => bytes.extend(record),
-            Self::Negation(mv) => bytes.extend(vector_bytes(mv)),
-        }
-        bytes.resize(Self::LEN, 0);
-        bytes
+impl Question {
+    /// Bytes that are read, with nothing else to say.
+    fn read(function: Function, bytes: impl Into<Vec<u8>>) -> Self {
+        Self::new::<i64>(function, []).lending(Role::BLOCK, bytes)
     }
+}
 
-    fn answer(&self) -> Result<String, String> {
-        let numbers = self.numbers().ok_or("the Rust has no answer")?;
-        Ok(format!("{} {numbers}", self.kind()))
+impl list::Case for Case {
+    fn put(&self, list: &mut List) -> Result<(), String> {
+        let answer = Answer {
+            numbers: self.answer().ok_or("the Rust has no answer")?,
+            after: Vec::new(),
+        };
+        list.put(self.question(), answer);
+        Ok(())
     }
 }
 
@@ -92,7 +93,7 @@ pub fn vector_bytes(mv: Vector) -> [u8; 4] {
     [y0, y1, x0, x1]
 }
 
-fn record_words(record: Record) -> Option<String> {
+fn record_numbers(record: Record) -> Option<Vec<i64>> {
     let Record {
         mv: [first, second],
         reference: [first_ref, second_ref],
@@ -100,7 +101,7 @@ fn record_words(record: Record) -> Option<String> {
         mf,
     } = record;
     let Size { width, height } = leaves::size(size)?;
-    Some(words([
+    Some(numbers([
         first.y,
         first.x,
         second.y,
@@ -114,6 +115,6 @@ fn record_words(record: Record) -> Option<String> {
     ]))
 }
 
-fn words<T: ToString, const N: usize>(numbers: [T; N]) -> String {
-    numbers.map(|number| number.to_string()).join(" ")
+fn numbers<N: Into<i64>, const COUNT: usize>(numbers: [N; COUNT]) -> Vec<i64> {
+    numbers.map(N::into).to_vec()
 }

@@ -1,3 +1,5 @@
+//! Cells: vectors that are INVALID or nearly so, and any reference.
+
 use crate::leaf::case::vector_bytes;
 use crate::leaf::case::Case;
 use crate::split_mix::SplitMix64;

@@ -1,3 +1,5 @@
+//! Distances between hints, at the limits of each number of bits.
+
 use crate::leaf::case::Case;
 use crate::split_mix::SplitMix64;
 

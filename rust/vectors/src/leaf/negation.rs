@@ -1,3 +1,5 @@
+//! Vectors that are turned.
+
 use crate::leaf::case::Case;
 use crate::split_mix::SplitMix64;
 use oracle::leaves::Vector;

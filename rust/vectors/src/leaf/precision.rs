@@ -1,3 +1,5 @@
+//! Vectors at the precisions that a header may ask for.
+
 use crate::leaf::case::Case;
 use crate::split_mix::SplitMix64;
 use oracle::leaves::Vector;

@@ -1,3 +1,5 @@
+//! Projections: worked ones, limits, and those next to a half or to where they are clipped.
+
 use crate::leaf::case::Case;
 use crate::split_mix::SplitMix64;
 use oracle::leaves::Vector;

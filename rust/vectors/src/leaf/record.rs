@@ -1,3 +1,5 @@
+//! Records: each size, each pair of references, and any bytes.
+
 use crate::leaf::case::vector_bytes;
 use crate::leaf::case::Case;
 use crate::split_mix::SplitMix64;

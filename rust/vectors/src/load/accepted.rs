@@ -1,3 +1,5 @@
+//! Loads that are accepted.
+
 use crate::load::edges::cell;
 use crate::load::edges::frame;
 use crate::load::edges::window;
@@ -5,7 +7,6 @@ use crate::load::question::FieldLen;
 use crate::load::question::LoadQuestion;
 use crate::load::question::MOST_FIELD;
 use crate::load::question::MOST_PROJECTION;
-use crate::load::question::PATCHES;
 use crate::question::FrameQuestion;
 use crate::split_mix::SplitMix64;
 use oracle::leaves::Vector;
@@ -26,6 +27,9 @@ const FRAMES: [(u32, u32, [u32; 3]); 13] = [
     (560, 240, [1, 1, 1]),
     (560, 239, [6, 2, 1]),
 ];
+
+/// The most runs of cells that a case has.
+const RUNS: usize = 24;
 
 /// How far from the frame a reference may be, most of them near.
 const STEPS: [i32; 8] = [1, 1, 2, 3, 5, 31, 32, 0];
@@ -193,7 +197,7 @@ fn with_cells(mut question: LoadQuestion, random: &mut SplitMix64) -> LoadQuesti
     let window = question.window;
     let rows = window.row_end.min(record.ih8) - window.row_start;
     let columns = window.col_start.saturating_sub(8)..(window.col_end + 8).min(record.iw8);
-    for _ in 0..if used.is_empty() { 0 } else { PATCHES } {
+    for _ in 0..if used.is_empty() { 0 } else { RUNS } {
         let slot = used[random.below(used.len())];
         let y = window.row_start + random.below(rows as usize) as u32;
         let x = columns.start + random.below(columns.len()) as u32;

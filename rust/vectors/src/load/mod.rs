@@ -7,19 +7,13 @@ mod plain;
 pub mod question;
 mod refused;
 
-use crate::cells;
-use crate::damage::Damage;
-use crate::list;
 use crate::list::List;
 use crate::list::SEED;
 use crate::load::question::LoadQuestion;
-use crate::load::question::Patch;
-use crate::load::question::PATCHES;
-use crate::question::FrameQuestion;
 use crate::split_mix::SplitMix64;
 
-pub fn list() -> Result<List, String> {
-    List::new("load", &questions())
+pub fn put(list: &mut List) -> Result<(), String> {
+    list.put_all("loads", &questions())
 }
 
 fn questions() -> Vec<LoadQuestion> {
@@ -32,49 +26,11 @@ fn questions() -> Vec<LoadQuestion> {
     .concat()
 }
 
-impl list::Case for LoadQuestion {
-    const LEN: usize = FrameQuestion::LEN + Damage::LEN + 32 + 8 + 20 * PATCHES;
-
-    fn bytes(&self) -> Vec<u8> {
-        let mut bytes = [self.frame.bytes(), self.damage.bytes()].concat();
-        let lens = [self.projection_len, self.field.field, self.field.len];
-        let numbers = self.window.numbers().into_iter().chain(lens);
-        bytes.extend(numbers.flat_map(u32::to_le_bytes));
-        bytes.extend(self.present);
-        bytes.push(0);
-        bytes.extend(self.patches.iter().flat_map(patch_bytes));
-        bytes.resize(Self::LEN, 0);
-        bytes
-    }
-
-    /// The answer, and what changed in the projection.
-    fn answer(&self) -> Result<String, String> {
-        self.check()?;
-        let lent = cells::lent(self.projection_len);
-        let refusal = self.refusal()?;
-        let after = match refusal {
-            0 => self.loaded()?,
-            _ => lent.clone(),
-        };
-        let mut words = vec![refusal.to_string()];
-        words.extend(cells::change_words(&lent, &after));
-        Ok(words.join(" "))
-    }
-}
-
-fn patch_bytes(patch: &Patch) -> Vec<u8> {
-    let numbers = [patch.field, patch.first, patch.count];
-    let mut bytes = numbers.map(u32::to_le_bytes).concat();
-    bytes.extend(patch.cell);
-    bytes.extend([0; 3]);
-    bytes
-}
-
 #[cfg(test)]
 mod tests {
     use super::*;
-    use crate::list::Case as _;
     use crate::load::plain::Landing;
+    use shared::desk::lent;
     use std::collections::HashSet;
 
     /// The accepted questions, each once.
@@ -82,14 +38,13 @@ mod tests {
         let mut seen = HashSet::new();
         questions()
             .into_iter()
-            .filter(|question| question.refusal() == Ok(0) && seen.insert(question.bytes()))
+            .filter(|it| it.refusal() == Ok(0) && seen.insert(it.question().unwrap().key()))
             .collect()
     }
 
     #[test]
     fn the_list_has_its_size() {
         assert!(accepted().len() >= 300);
-        assert!(list().unwrap().questions.len() < 250_000);
         let mut random = SplitMix64::new(SEED);
         for question in [edges::questions(), accepted::questions(&mut random)].concat() {
             assert_eq!(question.refusal(), Ok(0));
@@ -108,7 +63,7 @@ mod tests {
     #[test]
     fn the_rust_loads_what_document_01_says() {
         for question in accepted() {
-            let plain = plain::loaded(&question, cells::lent(question.projection_len));
+            let plain = plain::loaded(&question, lent(question.projection_len as usize));
             assert_eq!(question.loaded(), Ok(plain));
         }
     }

@@ -1,20 +1,26 @@
-use crate::cells;
-use crate::cells::CELL_LEN;
+//! A load.
+
 use crate::damage::Damage;
+use crate::list::Answer;
+use crate::list::Case;
+use crate::list::Function;
+use crate::list::List;
+use crate::list::Question;
 use crate::question::FrameQuestion;
+use crate::record::CELL_LEN;
 use oracle::load;
 use oracle::paper;
 use oracle::paper::FrameRecord;
 use oracle::Window;
+use shared::desk::lent;
+use shared::desk::Role;
 use std::array;
 
 /// The most bytes that a case lends in one field, and in the projection.
 pub const MOST_FIELD: u32 = 12_000;
 pub const MOST_PROJECTION: u32 = 40_000;
 
-pub const PATCHES: usize = 24;
-
-/// A load on a frame, whose record may be damaged: 628 bytes.
+/// A load on a frame, whose record may be damaged.
 #[derive(Clone)]
 pub struct LoadQuestion {
     pub frame: FrameQuestion,
@@ -90,25 +96,18 @@ impl LoadQuestion {
         CELL_LEN * self.stride() * self.frame.description.height.div_ceil(8)
     }
 
-    /// Whether the case keeps to what its list promises.
-    pub fn check(&self) -> Result<(), String> {
-        if self.frame.answer() != 0 {
-            return Err("the frame itself is refused".to_string());
-        }
-        if self.listed().max(self.field.len) > MOST_FIELD || self.projection_len > MOST_PROJECTION {
-            return Err("a buffer is too long".to_string());
-        }
-        if self.patches.len() > PATCHES {
-            return Err("too many patches".to_string());
-        }
-        Ok(())
+    /// The frame's record after the damage.
+    fn record(&self) -> Result<FrameRecord, String> {
+        Ok(self.damage.on(self.frame.record()?))
     }
 
-    /// The frame's record after the damage.
-    pub fn record(&self) -> Result<FrameRecord, String> {
-        let mut record = self.frame.record()?;
-        self.damage.apply(&mut record);
-        Ok(record)
+    pub fn question(&self) -> Result<Question, String> {
+        let numbers = self.window.numbers();
+        let question = Question::on(Function::LoadTmvs, &self.record()?, numbers);
+        Ok(question
+            .lending(Role::PRESENT, self.present)
+            .lending_fields(self.fields())
+            .lending(Role::PROJECTION, lent(self.projection_len as usize)))
     }
 
     /// The lent fields, zero but for the patches.
@@ -147,7 +146,7 @@ impl LoadQuestion {
         if !self.damage.is_none() {
             return Err("a damaged frame record is accepted".to_string());
         }
-        let lent = cells::lent(self.projection_len);
+        let lent = lent(self.projection_len as usize);
         let fields = self.fields();
         let fields = array::from_fn(|at| (self.present[at] == 1).then_some(fields[at].as_slice()));
         let present = self.frame.present.map(|flag| flag == 1);
@@ -160,5 +159,26 @@ impl LoadQuestion {
         )
         .gave()
         .ok_or_else(|| "the Rust panicked in load".to_string())
+    }
+}
+
+impl Question {
+    pub fn lending_fields(self, fields: [Vec<u8>; 7]) -> Self {
+        let roles = (0..).map(Role::field);
+        roles.zip(fields).fold(self, |question, (role, field)| {
+            question.lending(role, field)
+        })
+    }
+}
+
+impl Case for LoadQuestion {
+    fn put(&self, list: &mut List) -> Result<(), String> {
+        self.frame.put(list)?;
+        let answer = match self.refusal()? {
+            0 => Answer::of(0).leaving(Role::PROJECTION, self.loaded()?),
+            refusal => Answer::of(refusal),
+        };
+        list.put(self.question()?, answer);
+        Ok(())
     }
 }

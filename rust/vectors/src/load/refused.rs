@@ -1,3 +1,5 @@
+//! Loads at the limits of what is accepted.
+
 use crate::damage::Damage;
 use crate::limits::COLUMNS;
 use crate::limits::ROWS;

@@ -1,3 +1,5 @@
+//! Superblock rows that are accepted.
+
 use crate::question::FrameQuestion;
 use crate::row::RowQuestion;
 use crate::split_mix::SplitMix64;

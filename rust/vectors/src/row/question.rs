@@ -1,12 +1,24 @@
+//! A superblock row that is to be set up.
+
 use crate::damage::Damage;
+use crate::list::Answer;
+use crate::list::Case;
+use crate::list::Function;
+use crate::list::List;
+use crate::list::Question;
 use crate::question::FrameQuestion;
+use cases::codec::tile_bytes;
+use cases::codec::TILE_LEN;
 use oracle::paper;
 use oracle::paper::FrameRecord;
+use oracle::paper::RowTable;
 use oracle::rows;
 use oracle::rows::Place;
 use oracle::rows::Table;
+use shared::desk::lent;
+use shared::desk::Role;
 
-/// A superblock row that is to be set up on a frame, whose record may be damaged: 136 bytes.
+/// The row, and its frame, whose record may be damaged.
 #[derive(Clone, Copy)]
 pub struct RowQuestion {
     pub frame: FrameQuestion,
@@ -40,9 +52,7 @@ impl RowQuestion {
 
     /// The frame's record after the damage.
     pub fn record(&self) -> Result<FrameRecord, String> {
-        let mut record = self.frame.record()?;
-        self.damage.apply(&mut record);
-        Ok(record)
+        Ok(self.damage.on(self.frame.record()?))
     }
 
     /// The paper's answer to superblock-row setup.
@@ -58,5 +68,27 @@ impl RowQuestion {
         rows::setup(&self.frame.description, &self.place)
             .gave()
             .ok_or_else(|| "the Rust panicked in superblock-row setup".to_string())
+    }
+}
+
+impl Case for RowQuestion {
+    fn put(&self, list: &mut List) -> Result<(), String> {
+        self.frame.put(list)?;
+        let question = Question::on(
+            Function::TileSbrowInit,
+            &self.record()?,
+            self.place.numbers(),
+        );
+        let question = question.lending(Role::TILE, lent(TILE_LEN));
+        let answer = match self.refusal()? {
+            0 if !self.damage.is_none() => return Err("a damaged record is accepted".to_string()),
+            0 => {
+                let table = RowTable::from(&self.table()?);
+                Answer::of(0).leaving(Role::TILE, tile_bytes(&table))
+            }
+            refusal => Answer::of(refusal),
+        };
+        list.put(question, answer);
+        Ok(())
     }
 }

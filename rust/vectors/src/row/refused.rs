@@ -1,3 +1,5 @@
+//! Superblock rows at the limits of what is accepted.
+
 use crate::damage::Damage;
 use crate::question::FrameQuestion;
 use crate::row::RowQuestion;

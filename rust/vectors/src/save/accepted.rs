@@ -1,17 +1,21 @@
+//! Saves that are accepted.
+
 use crate::question::FrameQuestion;
 use crate::record;
+use crate::record::RECORD_LEN;
 use crate::save::block;
+use crate::save::question::behind;
+use crate::save::question::frame;
+use crate::save::question::place;
 use crate::save::question::Patch;
 use crate::save::question::SaveQuestion;
 use crate::save::question::MOST_BYTES;
-use crate::save::question::RECORD_LEN;
 use crate::save::random::any;
 use crate::save::random::with_blocks;
 use crate::split_mix::SplitMix64;
 use oracle::leaves::Record;
 use oracle::leaves::Vector;
 use oracle::save::Place;
-use oracle::Window;
 
 pub fn questions(random: &mut SplitMix64) -> Vec<SaveQuestion> {
     let mut questions = sizes();
@@ -23,35 +27,6 @@ pub fn questions(random: &mut SplitMix64) -> Vec<SaveQuestion> {
     questions.extend(lengths());
     questions.extend((0..152).map(|i| any(i, random)));
     questions
-}
-
-/// Columns and rows, for the first tile row, superblock row and pass.
-pub fn place([col_start, col_end]: [u32; 2], [row_start, row_end]: [u32; 2]) -> Place {
-    Place {
-        window: Window {
-            tile_row: 0,
-            col_start,
-            col_end,
-            row_start,
-            row_end,
-        },
-        superblock_row: 0,
-        pass: 1,
-    }
-}
-
-/// A frame of one thread with superblocks of 128 samples, whose table has all rows.
-pub fn frame(width: u32, height: u32) -> FrameQuestion {
-    FrameQuestion::sized(width, height, [1; 3]).with(|frame| frame.description.sb128 = 1)
-}
-
-/// The frame with each reference behind it or not.
-pub fn behind(frame: FrameQuestion, flags: [bool; 7]) -> FrameQuestion {
-    frame.with(|frame| {
-        let current = frame.description.current_hint as u8;
-        frame.description.hints =
-            flags.map(|behind| if behind { current - 1 } else { current + 1 });
-    })
 }
 
 /// Each size from the first column to the stride, and with an end that it meets exactly.

@@ -8,19 +8,13 @@ mod question;
 mod random;
 mod refused;
 
-use crate::cells;
-use crate::damage::Damage;
-use crate::list;
 use crate::list::List;
 use crate::list::SEED;
-use crate::question::FrameQuestion;
-use crate::save::question::Patch;
 use crate::save::question::SaveQuestion;
-use crate::save::question::PATCHES;
 use crate::split_mix::SplitMix64;
 
-pub fn list() -> Result<List, String> {
-    List::new("save", &questions())
+pub fn put(list: &mut List) -> Result<(), String> {
+    list.put_all("saves", &questions())
 }
 
 fn questions() -> Vec<SaveQuestion> {
@@ -28,45 +22,10 @@ fn questions() -> Vec<SaveQuestion> {
     [accepted::questions(&mut random), refused::questions()].concat()
 }
 
-impl list::Case for SaveQuestion {
-    const LEN: usize = FrameQuestion::LEN + Damage::LEN + 36 + 12 + 20 * PATCHES;
-
-    fn bytes(&self) -> Vec<u8> {
-        let mut bytes = [self.frame.bytes(), self.damage.bytes()].concat();
-        let lens = [self.records_len, self.field_len];
-        let numbers = self.place.numbers().into_iter().chain(lens);
-        bytes.extend(numbers.flat_map(u32::to_le_bytes));
-        bytes.extend(self.filler);
-        bytes.extend(self.patches.iter().flat_map(patch_bytes));
-        bytes.resize(Self::LEN, 0);
-        bytes
-    }
-
-    /// The answer, and what changed in the field.
-    fn answer(&self) -> Result<String, String> {
-        self.check()?;
-        let lent = cells::lent(self.field_len);
-        let refusal = self.refusal()?;
-        let after = match refusal {
-            0 => self.saved()?,
-            _ => lent.clone(),
-        };
-        let mut words = vec![refusal.to_string()];
-        words.extend(cells::change_words(&lent, &after));
-        Ok(words.join(" "))
-    }
-}
-
-fn patch_bytes(patch: &Patch) -> Vec<u8> {
-    let mut bytes = [patch.first.to_le_bytes(), patch.count.to_le_bytes()].concat();
-    bytes.extend(patch.record);
-    bytes
-}
-
 #[cfg(test)]
 mod tests {
     use super::*;
-    use crate::list::Case as _;
+    use shared::desk::lent;
     use std::collections::HashSet;
 
     /// The accepted questions, each once.
@@ -74,14 +33,13 @@ mod tests {
         let mut seen = HashSet::new();
         questions()
             .into_iter()
-            .filter(|question| question.refusal() == Ok(0) && seen.insert(question.bytes()))
+            .filter(|it| it.refusal() == Ok(0) && seen.insert(it.question().unwrap().key()))
             .collect()
     }
 
     #[test]
     fn the_list_has_its_size() {
         assert!(accepted().len() >= 300);
-        assert!(list().unwrap().questions.len() < 250_000);
         let mut random = SplitMix64::new(SEED);
         for question in accepted::questions(&mut random) {
             assert_eq!(question.refusal(), Ok(0));
@@ -100,7 +58,7 @@ mod tests {
     #[test]
     fn the_rust_saves_what_document_01_says() {
         for question in accepted() {
-            let plain = plain::saved(&question, cells::lent(question.field_len));
+            let plain = plain::saved(&question, lent(question.field_len as usize));
             assert_eq!(question.saved(), Ok(plain));
         }
     }

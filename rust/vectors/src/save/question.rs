@@ -1,23 +1,29 @@
-use crate::cells;
-use crate::cells::CELL_LEN;
+//! A save.
+
 use crate::damage::Damage;
+use crate::list::Answer;
+use crate::list::Case;
+use crate::list::Function;
+use crate::list::List;
+use crate::list::Question;
 use crate::question::FrameQuestion;
+use crate::record::CELL_LEN;
+use crate::record::RECORD_LEN;
 use oracle::leaves;
 use oracle::paper;
 use oracle::paper::FrameRecord;
 use oracle::save;
 use oracle::save::Place;
 use oracle::Outcome;
+use oracle::Window;
+use shared::desk::lent;
+use shared::desk::Role;
 use std::ops::Range;
-
-pub const RECORD_LEN: u32 = 12;
 
 /// The most bytes that a case lends in one buffer.
 pub const MOST_BYTES: u32 = 60_000;
 
-pub const PATCHES: usize = 24;
-
-/// A save on a frame, whose record may be damaged: 636 bytes.
+/// A save on a frame, whose record may be damaged.
 #[derive(Clone)]
 pub struct SaveQuestion {
     pub frame: FrameQuestion,
@@ -105,25 +111,17 @@ impl SaveQuestion {
         (rows, window.col_start..col_end, limit)
     }
 
-    /// Whether the case keeps to what its list promises.
-    pub fn check(&self) -> Result<(), String> {
-        if self.frame.answer() != 0 {
-            return Err("the frame itself is refused".to_string());
-        }
-        if self.records_len.max(self.field_len) > MOST_BYTES {
-            return Err("a buffer is too long".to_string());
-        }
-        if self.patches.len() > PATCHES {
-            return Err("too many patches".to_string());
-        }
-        Ok(())
-    }
-
     /// The frame's record after the damage.
     fn record(&self) -> Result<FrameRecord, String> {
-        let mut record = self.frame.record()?;
-        self.damage.apply(&mut record);
-        Ok(record)
+        Ok(self.damage.on(self.frame.record()?))
+    }
+
+    pub fn question(&self) -> Result<Question, String> {
+        let numbers = self.place.numbers();
+        let question = Question::on(Function::SaveTmvs, &self.record()?, numbers);
+        Ok(question
+            .lending(Role::RECORDS, self.records())
+            .lending(Role::SAVED, lent(self.field_len as usize)))
     }
 
     /// The lent records: fillers and patches, and zeros behind the last whole one.
@@ -157,7 +155,7 @@ impl SaveQuestion {
         if !self.damage.is_none() {
             return Err("a damaged frame record is accepted".to_string());
         }
-        let lent = cells::lent(self.field_len);
+        let lent = lent(self.field_len as usize);
         let present = self.frame.present.map(|flag| flag == 1);
         let records = rust_records(self.records());
         let description = &self.frame.description;
@@ -171,6 +169,47 @@ impl SaveQuestion {
     fn starts_past_the_frame(&self) -> bool {
         self.place.window.row_start > self.frame.description.height.div_ceil(8)
     }
+}
+
+impl Case for SaveQuestion {
+    fn put(&self, list: &mut List) -> Result<(), String> {
+        self.frame.put(list)?;
+        let answer = match self.refusal()? {
+            0 => Answer::of(0).leaving(Role::SAVED, self.saved()?),
+            refusal => Answer::of(refusal),
+        };
+        list.put(self.question()?, answer);
+        Ok(())
+    }
+}
+
+/// Columns and rows, for the first tile row, superblock row and pass.
+pub fn place([col_start, col_end]: [u32; 2], [row_start, row_end]: [u32; 2]) -> Place {
+    Place {
+        window: Window {
+            tile_row: 0,
+            col_start,
+            col_end,
+            row_start,
+            row_end,
+        },
+        superblock_row: 0,
+        pass: 1,
+    }
+}
+
+/// A frame of one thread with superblocks of 128 samples, whose table has all rows.
+pub fn frame(width: u32, height: u32) -> FrameQuestion {
+    FrameQuestion::sized(width, height, [1; 3]).with(|frame| frame.description.sb128 = 1)
+}
+
+/// The frame with each reference behind it or not.
+pub fn behind(frame: FrameQuestion, flags: [bool; 7]) -> FrameQuestion {
+    frame.with(|frame| {
+        let current = frame.description.current_hint as u8;
+        frame.description.hints =
+            flags.map(|behind| if behind { current - 1 } else { current + 1 });
+    })
 }
 
 /// The Rust can't hold a record whose size code is none. An accepted save doesn't read it, so zeros

@@ -1,9 +1,10 @@
+//! Saves with any windows and blocks.
+
 use crate::question::FrameQuestion;
-use crate::save::accepted::behind;
-use crate::save::accepted::place;
 use crate::save::block;
+use crate::save::question::behind;
+use crate::save::question::place;
 use crate::save::question::SaveQuestion;
-use crate::save::question::PATCHES;
 use crate::split_mix::SplitMix64;
 
 /// Width, height, and tile rows, tile threads, frame threads.
@@ -24,6 +25,9 @@ const FRAMES: [(u32, u32, [u32; 3]); 14] = [
     (512, 260, [1, 1, 1]),
 ];
 
+/// The most blocks that a case has beside its filler.
+const BLOCKS: usize = 24;
+
 /// The Rust multiplies the superblock row by up to 32 in 32 bits.
 const LAST_ROW: u32 = (1 << 24) - 1;
 
@@ -41,7 +45,7 @@ pub fn any(i: usize, random: &mut SplitMix64) -> SaveQuestion {
     place.pass = 1 + random.below(2) as u32;
     let widest = [1, 1, 2, 16][random.below(4)];
     let question = SaveQuestion::new(frame, place, block::any(random, widest));
-    let count = [6, 12, PATCHES, PATCHES][random.below(4)];
+    let count = [6, 12, BLOCKS, BLOCKS][random.below(4)];
     with_blocks(question, count, random)
 }
 

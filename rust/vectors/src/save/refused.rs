@@ -1,12 +1,14 @@
+//! Saves at the limits of what is accepted.
+
 use crate::damage::Damage;
 use crate::limits::COLUMNS;
 use crate::limits::ROWS;
 use crate::limits::TILE_ROWS;
 use crate::question::FrameQuestion;
 use crate::record;
-use crate::save::accepted::frame;
-use crate::save::accepted::place;
 use crate::save::block;
+use crate::save::question::frame;
+use crate::save::question::place;
 use crate::save::question::SaveQuestion;
 use crate::save::question::MOST_BYTES;
 use oracle::leaves::Record;

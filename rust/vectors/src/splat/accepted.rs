@@ -1,3 +1,5 @@
+//! Splats that are accepted.
+
 use crate::question::FrameQuestion;
 use crate::record;
 use crate::row::RowQuestion;

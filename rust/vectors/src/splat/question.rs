@@ -1,20 +1,23 @@
+//! A splat.
+
 use crate::damage::Damage;
+use crate::list::Answer;
+use crate::list::Case;
+use crate::list::Function;
+use crate::list::List;
+use crate::list::Question;
+use crate::record::RECORD_LEN;
 use crate::row::RowQuestion;
+use cases::codec::tile_bytes;
 use oracle::paper;
 use oracle::paper::RowTable;
 use oracle::rows::Table;
 use oracle::splat;
 use oracle::splat::Block;
+use shared::desk::lent;
+use shared::desk::Role;
 
-pub const RECORD_LEN: u32 = 12;
-
-/// The most bytes that a case lends or needs.
-const MOST_BYTES: u32 = 60_000;
-
-/// Lent bytes are this or more.
-const LEAST_LENT: u8 = 128;
-
-/// A splat on a row's table: 176 bytes. The damage of the row's frame comes after row setup.
+/// A splat on a row's table. The damage of the row's frame comes after row setup.
 #[derive(Clone, Copy)]
 pub struct SplatQuestion {
     pub row: RowQuestion,
@@ -71,22 +74,6 @@ impl SplatQuestion {
         self
     }
 
-    /// Whether the case keeps to what its list promises.
-    pub fn check(&self) -> Result<(), String> {
-        let undamaged = self.row.with(|row| row.damage = Damage::NONE);
-        if undamaged.refusal()? != 0 {
-            return Err("the row itself is refused".to_string());
-        }
-        let needed = RECORD_LEN * listed_records(&self.row);
-        if needed.max(self.buffer_len) > MOST_BYTES {
-            return Err("the buffer is too long".to_string());
-        }
-        if self.record.iter().all(|&byte| byte >= LEAST_LENT) {
-            return Err("the record may stand in the lent buffer".to_string());
-        }
-        Ok(())
-    }
-
     /// The paper's answer.
     pub fn refusal(&self) -> Result<u8, String> {
         Ok(paper::splat_answer(
@@ -113,6 +100,41 @@ impl SplatQuestion {
         let mut table = self.row.table()?;
         self.entry.apply(&mut table);
         Ok(table)
+    }
+}
+
+impl Case for SplatQuestion {
+    fn put(&self, list: &mut List) -> Result<(), String> {
+        let undamaged = self.row.with(|row| row.damage = Damage::NONE);
+        if undamaged.refusal()? != 0 {
+            return Err("the row itself is refused".to_string());
+        }
+        undamaged.put(list)?;
+        let Block {
+            by4,
+            bx4,
+            width,
+            height,
+        } = self.block;
+        let numbers = [by4, bx4, width, height];
+        let table = RowTable::from(&self.table()?);
+        let mut records = lent(self.buffer_len as usize);
+        let question = Question::on(Function::SplatMv, &self.row.record()?, numbers)
+            .lending(Role::TILE, tile_bytes(&table))
+            .lending(Role::BLOCK, self.record)
+            .lending(Role::RECORDS, records.clone());
+        let answer = match self.refusal()? {
+            0 => {
+                let (places, _) = records.as_chunks_mut();
+                self.written()?
+                    .into_iter()
+                    .for_each(|place| places[place] = self.record);
+                Answer::of(0).leaving(Role::RECORDS, records)
+            }
+            refusal => Answer::of(refusal),
+        };
+        list.put(question, answer);
+        Ok(())
     }
 }
 

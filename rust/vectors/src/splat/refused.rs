@@ -1,12 +1,14 @@
+//! Splats at the limits of what is accepted.
+
 use crate::damage::Damage;
 use crate::question::FrameQuestion;
 use crate::record;
+use crate::record::RECORD_LEN;
 use crate::row::RowQuestion;
 use crate::splat::question::block;
 use crate::splat::question::listed_records;
 use crate::splat::question::EntryDamage;
 use crate::splat::question::SplatQuestion;
-use crate::splat::question::RECORD_LEN;
 use oracle::leaves::Record;
 use oracle::leaves::Vector;
 

@@ -1,22 +1,14 @@
 -- `capture::file::body` meets its contract.
 -- Assumes nothing.
-use mathlib.Core.Path.{sym, ap, _∙_}
+use mathlib.Core.Path.{sym, _∙_}
 use borrow.Author.Needs.{needs}
-use Rattle.capture.specs.File.{bodyAt}
+use borrow.Author.Tests.{not-true, not-false}
+use Rattle.capture.specs.File.{scanOf}
 use Rattle.capture.proofs.file.body.Statement.{statement}
 use Rattle.capture.proofs.file.body.Tie as tie
 
-scan-for-requires : tie.Need-scan-for-requires
-scan-for-requires c κs = search needs
-
-enum-known-s : tie.Need-enum-known-s
-enum-known-s c = search needs
-
-part-requires : tie.Need-part-requires
-part-requires c κs = search needs
-
-enum-told : tie.Need-enum-told
-enum-told c = search needs
+is-well-requires : tie.Need-is-well-requires
+is-well-requires c κs = search needs
 
 sub-result : tie.Need-sub-result
 sub-result c = search needs
@@ -27,43 +19,24 @@ part-result-start c = search needs
 part-result-end : tie.Need-part-result-end
 part-result-end c = search needs
 
-enum-told-2 : tie.Need-enum-told-2
-enum-told-2 c = search needs
-
-sub-result-2 : tie.Need-sub-result-2
-sub-result-2 c = search needs
-
-part-result-start-2 : tie.Need-part-result-start-2
-part-result-start-2 c = search needs
-
-part-result-end-2 : tie.Need-part-result-end-2
-part-result-end-2 c = search needs
-
 returns : tie.Need-returns
-returns c =
-    c .part .ensures ∙ ap (bodyAt (c .before .before .before .before .before .before .args .file .now)) (sym (c .before .before .s .given .1) ∙ c .before .before .before .before .scan-for .ensures)
+unfolding scanOf
+returns c = rw (sym (c .before .before .is-well .ensures) ∙ not-true _ (c .before .if1 .taken))
+
+body-in-requires : tie.Need-body-in-requires
+body-in-requires c κs = sym (c .before .is-well .ensures) ∙ not-false _ (c .if1 .left)
 
 returns-2 : tie.Need-returns-2
-returns-2 c = ap (bodyAt (c .before .before .before .before .before .args .file .now)) (sym (c .before .enum-told .given .1) ∙ c .before .before .before .scan-for .ensures)
-
-returns-3 : tie.Need-returns-3
-returns-3 c = ap (bodyAt (c .before .before .before .before .before .args .file .now)) (sym (c .before .enum-told2 .given .1) ∙ c .before .before .before .scan-for .ensures)
+returns-2 c = c .body-in .ensures
 
 pub body-spec : {M : Type 1} → statement M
 body-spec =
     tie.close
     (tie.spec
-    scan-for-requires
-    enum-known-s
-    part-requires
-    enum-told
+    is-well-requires
     sub-result
     part-result-start
     part-result-end
-    enum-told-2
-    sub-result-2
-    part-result-start-2
-    part-result-end-2
     returns
-    returns-2
-    returns-3)
+    body-in-requires
+    returns-2)

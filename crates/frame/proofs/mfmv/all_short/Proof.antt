@@ -1,6 +1,6 @@
 -- `frame::mfmv::all_short` meets its contract.
 -- Assumes nothing.
-use Rattle.hints.proofs.Shorts.{seven-short}
+use Rattle.frame.proofs.hints.Shorts.{seven-short}
 use borrow.Author.Needs.{needs}
 use Rattle.frame.proofs.mfmv.all_short.Statement.{statement}
 use Rattle.frame.proofs.mfmv.all_short.Tie as tie

@@ -1,6 +1,6 @@
 -- `frame::mfmv::is_selectable` meets its contract.
 -- Assumes nothing.
-use Rattle.hints.specs.Selection.{selectable}
+use Rattle.frame.specs.hints.Selection.{selectable}
 use borrow.Author.Tests.{le-leb, lt-leb}
 use Rattle.frame.proofs.mfmv.is_selectable.Statement.{statement}
 use Rattle.frame.proofs.mfmv.is_selectable.Tie as tie

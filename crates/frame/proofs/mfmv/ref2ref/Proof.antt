@@ -4,7 +4,7 @@ use native.Mathlib.Omega.{arith}
 use Prim.Native.Nat.{_+_, _*_, _^_}
 use mir.Syntax.{w16}
 use Rattle.ground.proofs.Bits.{kept}
-use Rattle.hints.proofs.Described.{under-at}
+use Rattle.frame.proofs.hints.Described.{under-at}
 use borrow.Author.Needs.{needs}
 use Rattle.frame.proofs.mfmv.ref2ref.Statement.{statement}
 use Rattle.frame.proofs.mfmv.ref2ref.Tie as tie

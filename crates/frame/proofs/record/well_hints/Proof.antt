@@ -9,7 +9,7 @@ use lib.ListN.{getD}
 use Rattle.ground.specs.Below.{allBelow}
 use Rattle.ground.proofs.Belows.{none, one-more, one-fails, up, done}
 use borrow.Author.Tests.{not-true, not-false}
-use Rattle.hints.specs.Distances.{wellHint}
+use Rattle.frame.specs.hints.Distances.{wellHint}
 use Rattle.frame.specs.Record.{noHint}
 use Rattle.frame.proofs.record.well_hints.Statement.{statement}
 use Rattle.frame.proofs.record.well_hints.Tie as tie

@@ -1,6 +1,6 @@
 -- `frame::setup::sbsz_of` meets its contract.
 -- Assumes nothing.
-use Rattle.extent.specs.Sizes.{sbszOf}
+use Rattle.frame.specs.extent.Sizes.{sbszOf}
 use borrow.Author.Tests.{eq-eqb, ne-eqb}
 use Rattle.frame.proofs.setup.sbsz_of.Statement.{statement}
 use Rattle.frame.proofs.setup.sbsz_of.Tie as tie

@@ -6,17 +6,17 @@ use Prim.Native.Nat.{_-_}
 use borrow.Author.Needs.{needs}
 use Rattle.ground.specs.Span.{firstOf}
 use Rattle.ground.proofs.Spans.{asked, ask-on, ask-stops}
-use Rattle.loading.specs.Load.{lent}
-use Rattle.job.specs.Job.{jobAt}
+use Rattle.motion.specs.loading.Fields.{three}
+use Rattle.jobs.specs.job.Job.{jobAt}
 use Rattle.jobs.specs.Admit.{handed, jobAnswer}
 use Rattle.jobs.proofs.admit.check_jobs.Statement.{statement}
 use Rattle.jobs.proofs.admit.check_jobs.Tie as tie
 
 abbrev Inv-loop : tie.InvT-loop
-Inv-loop f present batch f0 f1 f2 f3 f4 f5 f6 recs proj saved jobs i₀ i = firstOf (λ k. jobAnswer (handed f present (lent f0 f1 f2 f3 f4 f5 f6) recs proj saved) (jobAt batch k)) i (batch .n) ≡ firstOf (λ k. jobAnswer (handed f present (lent f0 f1 f2 f3 f4 f5 f6) recs proj saved) (jobAt batch k)) 0 (batch .n)
+Inv-loop f lent batch first second third recs proj saved jobs i₀ i = firstOf (λ k. jobAnswer (handed f lent (three first second third) recs proj saved) (jobAt batch k)) i (batch .n) ≡ firstOf (λ k. jobAnswer (handed f lent (three first second third) recs proj saved) (jobAt batch k)) 0 (batch .n)
 
 abbrev μ-loop : tie.MeasureT-loop
-μ-loop f present batch f0 f1 f2 f3 f4 f5 f6 recs proj saved jobs i₀ i = batch .n - i
+μ-loop f lent batch first second third recs proj saved jobs i₀ i = batch .n - i
 
 loop-holds : tie.Need-loop-holds Inv-loop μ-loop
 loop-holds c = refl
@@ -32,8 +32,8 @@ check-job-requires c κs = search needs
 
 returns : tie.Need-returns Inv-loop μ-loop
 returns c =
-    let s = c .before .before .before .before .before .before .before .before .before .before .before .before .before .before .before .args in
-    ask-stops (λ k. jobAnswer (handed (s .f) (s .present) (lent (now (s .f0)) (now (s .f1)) (now (s .f2)) (now (s .f3)) (now (s .f4)) (now (s .f5)) (now (s .f6))) (now (s .recs)) (s .proj) (s .saved)) (jobAt (s .batch) k)) _ _ (c .before .before .before .if1 .taken) (c .before .check-job .ensures) (c .if2 .taken) ∙ c .before .before .before .before .before .loop .inv
+    let s = c .before .before .before .before .before .before .before .before .before .before .before .args in
+    ask-stops (λ k. jobAnswer (handed (s .f) (s .lent) (three (now (s .first)) (now (s .second)) (now (s .third))) (now (s .recs)) (s .proj) (s .saved)) (jobAt (s .batch) k)) _ _ (c .before .before .before .if1 .taken) (c .before .check-job .ensures) (c .if2 .taken) ∙ c .before .before .before .before .before .loop .inv
 
 add-i : tie.Need-add-i Inv-loop μ-loop
 add-i c = search needs
@@ -43,8 +43,8 @@ loop-less c = search needs
 
 loop-again : tie.Need-loop-again Inv-loop μ-loop
 loop-again c =
-    let s = c .before .before .before .before .before .before .before .before .before .before .before .before .before .before .before .args in
-    ask-on (λ k. jobAnswer (handed (s .f) (s .present) (lent (now (s .f0)) (now (s .f1)) (now (s .f2)) (now (s .f3)) (now (s .f4)) (now (s .f5)) (now (s .f6))) (now (s .recs)) (s .proj) (s .saved)) (jobAt (s .batch) k)) _ _ (c .before .before .before .if1 .taken) (c .before .check-job .ensures) (c .if2 .left) ∙ c .before .before .before .before .before .loop .inv
+    let s = c .before .before .before .before .before .before .before .before .before .before .before .args in
+    ask-on (λ k. jobAnswer (handed (s .f) (s .lent) (three (now (s .first)) (now (s .second)) (now (s .third))) (now (s .recs)) (s .proj) (s .saved)) (jobAt (s .batch) k)) _ _ (c .before .before .before .if1 .taken) (c .before .check-job .ensures) (c .if2 .left) ∙ c .before .before .before .before .before .loop .inv
 
 returns-2 : tie.Need-returns-2 Inv-loop μ-loop
 returns-2 c = asked _ _ _ (c .if1 .left) ∙ c .before .before .loop .inv

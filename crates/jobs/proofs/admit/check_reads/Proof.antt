@@ -7,32 +7,32 @@ use native.Mathlib.Omega.{arith}
 use borrow.Author.Needs.{needs}
 use Rattle.ground.specs.Span.{firstOf}
 use Rattle.ground.proofs.Spans.{asked, ask-on, ask-stops}
-use Rattle.loading.specs.Load.{lent}
-use Rattle.work.specs.Work.{workRead}
+use Rattle.motion.specs.loading.Fields.{three, cellsIn}
+use Rattle.jobs.specs.work.Work.{admitRead}
 use Rattle.jobs.specs.Admit.{jobReads}
 use Rattle.jobs.proofs.admit.check_reads.Statement.{statement}
 use Rattle.jobs.proofs.admit.check_reads.Tie as tie
 
 abbrev Inv-loop : tie.InvT-loop
-Inv-loop f job f0 f1 f2 f3 f4 f5 f6 recs n k₀ k = firstOf (workRead f (lent f0 f1 f2 f3 f4 f5 f6) recs job) k n ≡ firstOf (workRead f (lent f0 f1 f2 f3 f4 f5 f6) recs job) 0 n
+Inv-loop f job first second third recs n k₀ k = firstOf (admitRead f (cellsIn (three first second third) f) recs job) k n ≡ firstOf (admitRead f (cellsIn (three first second third) f) recs job) 0 n
 
 abbrev μ-loop : tie.MeasureT-loop
-μ-loop f job f0 f1 f2 f3 f4 f5 f6 recs n k₀ k = n - k
+μ-loop f job first second third recs n k₀ k = n - k
 
 count-of-requires : tie.Need-count-of-requires Inv-loop μ-loop
-count-of-requires c κs = c .before .before .before .before .before .before .before .before .pre .0
+count-of-requires c κs = c .before .before .before .before .pre .0
 
 loop-holds : tie.Need-loop-holds Inv-loop μ-loop
 loop-holds c = refl
 
 check-work-requires : tie.Need-check-work-requires Inv-loop μ-loop
-check-work-requires c κs = let s = c .before .before .before .before .before .before .before .before .before .before .before in (s .pre .1, omega (arith, c .before .before .count-of .ensures, c .loop-test .taken))
+check-work-requires c κs = let s = c .before .before .before .before .before .before .before in (s .pre .1, omega (arith, c .before .before .count-of .ensures, c .loop-test .taken))
 
 returns : tie.Need-returns Inv-loop μ-loop
 unfolding jobReads
 returns c =
-    let s = c .before .before .before .before .before .before .before .before .before .before .before .before .before in
-    ask-stops _ _ _ (c .before .before .loop-test .taken) (c .before .check-work .ensures) (c .if1 .taken) ∙ c .before .before .before .loop .inv ∙ ap (firstOf (workRead (s .args .f) (lent (now (s .args .f0)) (now (s .args .f1)) (now (s .args .f2)) (now (s .args .f3)) (now (s .args .f4)) (now (s .args .f5)) (now (s .args .f6))) (now (s .args .recs)) (s .args .job)) 0) (c .before .before .before .before .count-of .ensures)
+    let s = c .before .before .before .before .before .before .before .before .before in
+    ask-stops _ _ _ (c .before .before .loop-test .taken) (c .before .check-work .ensures) (c .if1 .taken) ∙ c .before .before .before .loop .inv ∙ ap (firstOf (admitRead (s .args .f) (cellsIn (three (now (s .args .first)) (now (s .args .second)) (now (s .args .third))) (s .args .f)) (now (s .args .recs)) (s .args .job)) 0) (c .before .before .before .before .count-of .ensures)
 
 add-k : tie.Need-add-k Inv-loop μ-loop
 add-k c = search needs
@@ -46,8 +46,8 @@ loop-again c = ask-on _ _ _ (c .before .before .loop-test .taken) (c .before .ch
 returns-2 : tie.Need-returns-2 Inv-loop μ-loop
 unfolding jobReads
 returns-2 c =
-    let s = c .before .before .before .before .before .before .before .before .before .before .before in
-    asked _ _ _ (c .loop-test .left) ∙ c .before .loop .inv ∙ ap (firstOf (workRead (s .args .f) (lent (now (s .args .f0)) (now (s .args .f1)) (now (s .args .f2)) (now (s .args .f3)) (now (s .args .f4)) (now (s .args .f5)) (now (s .args .f6))) (now (s .args .recs)) (s .args .job)) 0) (c .before .before .count-of .ensures)
+    let s = c .before .before .before .before .before .before .before in
+    asked _ _ _ (c .loop-test .left) ∙ c .before .loop .inv ∙ ap (firstOf (admitRead (s .args .f) (cellsIn (three (now (s .args .first)) (now (s .args .second)) (now (s .args .third))) (s .args .f)) (now (s .args .recs)) (s .args .job)) 0) (c .before .before .count-of .ensures)
 
 pub check-reads-spec : {M : Type 1} → statement M
 check-reads-spec =

@@ -8,8 +8,8 @@ use lib.ListN.{getD}
 use borrow.Author.Needs.{needs}
 use Rattle.ground.specs.Below.{allBelow}
 use Rattle.ground.proofs.Belows as belows
-use Rattle.job.specs.Job.{noJob, jobAt}
-use Rattle.job.specs.Share.{meets}
+use Rattle.jobs.specs.job.Job.{noJob, jobAt}
+use Rattle.jobs.specs.job.Share.{meets}
 use Rattle.jobs.specs.Admit.{aloneAt}
 use Rattle.jobs.proofs.admit.is_alone.Statement.{statement}
 use Rattle.jobs.proofs.admit.is_alone.Tie as tie

@@ -1,14 +1,13 @@
 -- `layout::frame_bytes::put_frame` meets its contract.
 -- Assumes nothing.
-use native.Mathlib.Omega.{arith}
 use mathlib.Core.List.{[], _∷_}
 use Prim.Native.Nat.{_%_}
 use Rattle.ground.specs.Little.{fours}
 use Rattle.frame.specs.Mfmv.{slotOf}
-use Rattle.hints.specs.Selection.{asSelection}
+use Rattle.frame.specs.hints.Selection.{asSelection}
 use Rattle.frame.specs.Record.{frameOf}
-use Rattle.hints.proofs.Described.{accepted-limits, accepted-hints}
-use Rattle.hints.proofs.Selections.{slot-fits}
+use Rattle.frame.proofs.hints.Described.{accepted-limits, accepted-hints}
+use Rattle.frame.proofs.hints.Selections.{slot-fits}
 use Rattle.layout.specs.FrameBytes.{sizeNumbers, hintBytes, hintsBytes, mfmvsBytes, frameBytes}
 use Rattle.layout.proofs.Pieces.{as-one}
 use borrow.Author.Needs.{needs}
@@ -34,7 +33,10 @@ put-hints-requires : tie.Need-put-hints-requires
 put-hints-requires c κs = search needs
 
 put-slots-requires : tie.Need-put-slots-requires
-put-slots-requires c κs = let s = c .before .before .before .before .before .before .before .before .before .before .before .before .before .before .before .before .before .before .before in let e = c .before .before .before .before .before .before .before .before .before .before .before .before .before .before .before .select .ensures in (search needs, accepted-hints _ _ (s .pre .1), s .pre .2, s .pre .3, slot-fits (s .args .d) (s .args .present) 0 e (omega arith), slot-fits (s .args .d) (s .args .present) 1 e (omega arith), slot-fits (s .args .d) (s .args .present) 2 e (omega arith))
+put-slots-requires c κs =
+    let s = c .before .before .before .before .before .before .before .before .before .before .before .before .before .before .before .before .before .before .before in
+    let e = c .before .before .before .before .before .before .before .before .before .before .before .before .before .before .before .select .ensures in
+    ((search needs, s .pre .2, s .pre .3, accepted-hints _ _ (s .pre .1)), λ i h. slot-fits (s .args .d) (s .args .present) i e h)
 
 same-length : tie.Need-same-length
 same-length c = search needs

@@ -9,7 +9,7 @@ use Rattle.layout.proofs.frame_bytes.well_frame.Tie as tie
 use Rattle.layout.proofs.frame_bytes.sizes_at.Reads as sizes-at-reads
 use Rattle.layout.proofs.frame_bytes.well_hints.Reads as well-hints-reads
 use Rattle.layout.proofs.frame_bytes.well_mfmvs.Reads as well-mfmvs-reads
-use Rattle.extent.proofs.sizes.Sizes.well_formed.Reads as well-formed-reads
+use Rattle.frame.proofs.extent.sizes.Sizes.well_formed.Reads as well-formed-reads
 
 sizes-at-requires : tie.Need-sizes-at-requires
 sizes-at-requires c κs = search needs

@@ -9,13 +9,13 @@ use borrow.Author.Tests.{not-true, not-false}
 use borrow.Author.Needs.{needs}
 use Rattle.ground.specs.Below.{allBelow}
 use Rattle.ground.proofs.Belows.{none, one-more, one-fails, up, done}
-use Rattle.hints.specs.Distances.{wellHint}
+use Rattle.frame.specs.hints.Distances.{wellHint}
 use Rattle.frame.specs.Record.{noHint}
 use Rattle.layout.specs.FrameBytes.{refHintsAt}
 use Rattle.layout.proofs.frame_bytes.well_hints.Statement.{statement}
 use Rattle.layout.proofs.frame_bytes.well_hints.Tie as tie
 use Rattle.layout.proofs.frame_bytes.hint_in.Reads as hint-in-reads
-use Rattle.hints.proofs.distances.RefHint.well_formed.Reads as well-formed-reads
+use Rattle.frame.proofs.hints.distances.RefHint.well_formed.Reads as well-formed-reads
 
 abbrev Inv-loop : tie.InvT-loop
 Inv-loop s i₀ i = (i ≤ 7) × (allBelow i (λ j. wellHint (getD (refHintsAt s) j noHint)) ≡ true)

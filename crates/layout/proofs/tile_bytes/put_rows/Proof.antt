@@ -10,6 +10,7 @@ use Rattle.ground.specs.Put.{put}
 use Rattle.ground.specs.Little.{fourBytes, fours}
 use Rattle.ground.proofs.Products.{row-fits}
 use Rattle.ground.specs.Tab.{tab}
+use Rattle.layout.specs.TileBytes.{placeNumber}
 use Rattle.layout.proofs.Entries.{rows-on, rows-done}
 use borrow.Author.Needs.{needs}
 use Rattle.layout.proofs.tile_bytes.put_rows.Statement.{statement}
@@ -24,14 +25,11 @@ abbrev μ-loop : tie.MeasureT-loop
 loop-holds : tie.Need-loop-holds Inv-loop μ-loop
 loop-holds c = let k : c .before .args .n - 0 ≡ c .before .args .n = omega arith in (omega arith, refl, search needs, rw (add-zero, k))
 
-add-put-size : tie.Need-add-put-size Inv-loop μ-loop
-add-put-size c = search needs
+add-put-entry : tie.Need-add-put-entry Inv-loop μ-loop
+add-put-entry c = search needs
 
-mul-put-size : tie.Need-mul-put-size Inv-loop μ-loop
-mul-put-size c = search needs
-
-put-size-requires : tie.Need-put-size-requires Inv-loop μ-loop
-put-size-requires c κs = search needs
+put-entry-requires : tie.Need-put-entry-requires Inv-loop μ-loop
+put-entry-requires c κs = search needs
 
 add-r : tie.Need-add-r Inv-loop μ-loop
 add-r c = let l = c .before .before .before .before .before .loop in let a = c .before .before .before .before .before .before .before .args in record { fits = omega (arith, row-fits (l .i) (a .n) (a .stride) (c .before .before .before .before .loop-test .taken)) }
@@ -43,6 +41,7 @@ loop-less : tie.Need-loop-less Inv-loop μ-loop
 loop-less c = search needs
 
 loop-again : tie.Need-loop-again Inv-loop μ-loop
+unfolding placeNumber
 loop-again c =
     let l = c .before .before .before .before .before .loop in
     let a = c .before .before .before .before .before .before .before .args in (
@@ -50,7 +49,7 @@ loop-again c =
       search needs,
       rw add-one (omega (arith, suc-mul (l .i) (a .stride))),
       rows-on (l .s) _ (λ j. a .first + j * a .stride) (a .at) (l .i) (a .n) (c .before .before .before .before .loop-test .taken)
-          (c .before .before .put-size .ensures ∙ ap (λ (r : ℕ). put (l .s) (4 * (a .at + l .i)) (fourBytes r)) (l .inv .2))
+          (c .before .before .put-entry .ensures ∙ ap (λ (r : ℕ). put (l .s) (4 * (a .at + l .i)) (fourBytes r)) (l .inv .2))
           ∙ l .inv .3,
     )
 
@@ -67,9 +66,8 @@ put-rows-spec =
     Inv-loop
     μ-loop
     loop-holds
-    add-put-size
-    mul-put-size
-    put-size-requires
+    add-put-entry
+    put-entry-requires
     add-r
     add-i
     loop-less

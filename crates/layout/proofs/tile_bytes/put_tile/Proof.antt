@@ -1,8 +1,8 @@
 -- `layout::tile_bytes::put_tile` meets its contract.
 -- Assumes nothing.
 use native.Mathlib.Omega.{arith}
-use Rattle.extent.proofs.Sizing.{fits}
-use Rattle.rows.proofs.Parts.{start-fits, rows-fit}
+use Rattle.frame.proofs.extent.Sizing.{fits, stride-small}
+use Rattle.rows.proofs.Parts.{rows-fit}
 use Rattle.layout.proofs.Read.{sizes-accepted}
 use Rattle.layout.proofs.Entries.{tile-laid}
 use borrow.Author.Needs.{needs}
@@ -13,16 +13,24 @@ sizes-at-requires : tie.Need-sizes-at-requires
 sizes-at-requires c κs = search needs
 
 part-start-requires : tie.Need-part-start-requires
-part-start-requires c κs = let s = c .before .before .before .before in let a = sizes-accepted (s .args .frame .now) (s .args .col) (s .args .row) (s .args .tile) (s .args .pass) (c .before .sizes-at .ensures) (s .pre .2) in a
+part-start-requires c κs = let s = c .before .before .before .before .before in sizes-accepted (s .args .frame .now) (s .args .r) (c .before .before .sizes-at .ensures) (s .pre .2)
 
-mul-put-table : tie.Need-mul-put-table
-mul-put-table c = let s = c .before .before .before .before .before .before in let a = sizes-accepted (s .args .frame .now) (s .args .col) (s .args .row) (s .args .tile) (s .args .pass) (c .before .before .before .sizes-at .ensures) (s .pre .2) in record { fits = omega (arith, start-fits (c .before .before .before .sizes-at .result) (s .args .tile) (s .args .pass) (a .0) (a .1)) }
+doubled-requires : tie.Need-doubled-requires
+doubled-requires c κs =
+    let s = c .before .before .before .before .before .before in
+    let z = c .before .before .before .sizes-at in
+    stride-small (z .result) (sizes-accepted (s .args .frame .now) (s .args .r) (z .ensures) (s .pre .2) .0)
 
 put-table-requires : tie.Need-put-table-requires
-put-table-requires c κs = let s = c .before .before .before .before .before .before in let a = sizes-accepted (s .args .frame .now) (s .args .col) (s .args .row) (s .args .tile) (s .args .pass) (c .before .before .before .sizes-at .ensures) (s .pre .2) in (omega arith, fits (c .before .before .before .sizes-at .result) (a .0) .superblock, omega (arith, c .before .part-start .ensures, rows-fit (c .before .before .before .sizes-at .result) (s .args .tile) (s .args .pass) (a .0) (a .1)))
+put-table-requires c κs =
+    let s = c .before .before .before .before .before .before .before in
+    let z = c .before .before .before .before .sizes-at in
+    let a = sizes-accepted (s .args .frame .now) (s .args .r) (z .ensures) (s .pre .2) in
+    rw (c .doubled .ensures)
+    (omega arith, fits (z .result) (a .0) .superblock, omega (arith, c .before .part-start .ensures, rows-fit (z .result) (s .args .r .tile) (s .args .r .pass) (a .0) (a .1)))
 
 proj-start-requires : tie.Need-proj-start-requires
-proj-start-requires c κs = let s = c .before .before .before .before .before .before .before .before .before .before in let a = sizes-accepted (s .args .frame .now) (s .args .col) (s .args .row) (s .args .tile) (s .args .pass) (c .before .before .before .before .before .before .before .sizes-at .ensures) (s .pre .2) in a
+proj-start-requires c κs = let s = c .before .before .before .before .before .before .before .before .before .before .before in sizes-accepted (s .args .frame .now) (s .args .r) (c .before .before .before .before .before .before .before .before .sizes-at .ensures) (s .pre .2)
 
 cut-to-requires : tie.Need-cut-to-requires
 cut-to-requires c κs = search needs
@@ -31,13 +39,15 @@ cut-to-requires-2 : tie.Need-cut-to-requires-2
 cut-to-requires-2 c κs = search needs
 
 put-bounds-requires : tie.Need-put-bounds-requires
-put-bounds-requires c κs = search needs
+put-bounds-requires c κs = omega (arith, c .before .before .before .before .before .before .put-table .kept .0, c .before .before .before .before .before .before .before .before .before .before .before .before .before .before .pre .0)
 
 same-length : tie.Need-same-length
 same-length c = search needs
 
 returns : tie.Need-returns
-returns c = let a = c .before .before .before .before .before .before .before .before .before .before .before .before .before .before .before .before .args in tile-laid (a .s .now) (a .frame .now) (a .col) (a .row) (a .sby) (a .tile) (a .pass) (c .before .before .before .before .before .before .before .before .before .before .before .before .before .sizes-at .ensures) (c .before .before .before .before .before .before .before .before .before .before .before .part-start .ensures) (c .before .before .before .before .before .before .before .before .before .put-table .ensures) (c .before .before .before .before .before .proj-start .ensures) (c .before .before .before .before .cut-to .ensures) (c .before .before .before .cut-to2 .ensures) (c .before .before .put-bounds .ensures)
+returns c =
+    let a = c .before .before .before .before .before .before .before .before .before .before .before .before .before .before .before .before .before .args in
+    tile-laid (a .s .now) (a .frame .now) (a .r) (c .before .before .before .before .before .before .before .before .before .before .before .before .before .before .sizes-at .ensures) (c .before .before .before .before .before .before .before .before .before .before .doubled .ensures) (c .before .before .before .before .before .before .before .before .before .before .before .part-start .ensures) (c .before .before .before .before .before .before .before .before .before .put-table .ensures) (c .before .before .before .before .before .proj-start .ensures) (c .before .before .before .before .cut-to .ensures) (c .before .before .before .cut-to2 .ensures) (c .before .before .put-bounds .ensures)
 
 pub put-tile-spec : {M : Type 1} → statement M
 put-tile-spec =
@@ -45,7 +55,7 @@ put-tile-spec =
     (tie.spec
     sizes-at-requires
     part-start-requires
-    mul-put-table
+    doubled-requires
     put-table-requires
     proj-start-requires
     cut-to-requires

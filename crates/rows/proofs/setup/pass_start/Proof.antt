@@ -1,7 +1,7 @@
 -- `rows::setup::pass_start` meets its contract.
 -- Assumes nothing.
 use native.Mathlib.Omega.{arith}
-use Rattle.extent.proofs.Sizing.{fits, blocks-most}
+use Rattle.frame.proofs.extent.Sizing.{fits, blocks-most}
 use Rattle.rows.specs.Setup.{passStart}
 use borrow.Author.Tests.{eq-eqb, ne-eqb, le-ltb, lt-ltb}
 use Rattle.rows.proofs.setup.pass_start.Statement.{statement}

@@ -12,10 +12,10 @@ part-requires : tie.Need-part-requires
 part-requires c κs = search needs
 
 mul-result : tie.Need-mul-result
-mul-result c = let s = c .before .before in let e = ap (λ x. x * s .args .s .stride) (c .before .part .ensures) in record { fits = omega (arith, part-small (s .args .s) (s .args .tile) (s .pre .0) (s .pre .1)) }
+mul-result c = let s = c .before .before in let e = ap (λ x. x * s .args .s .stride .0) (c .before .part .ensures) in record { fits = omega (arith, part-small (s .args .s) (s .args .tile) (s .pre .0) (s .pre .1)) }
 
 mul-result-2 : tie.Need-mul-result-2
-mul-result-2 c = let s = c .before .before in let e = ap (λ x. x * s .args .s .stride) (c .before .part .ensures) in record { fits = omega (arith, part-small (s .args .s) (s .args .tile) (s .pre .0) (s .pre .1)) }
+mul-result-2 c = let s = c .before .before in let e = ap (λ x. x * s .args .s .stride .0) (c .before .part .ensures) in record { fits = omega (arith, part-small (s .args .s) (s .args .tile) (s .pre .0) (s .pre .1)) }
 
 returns : tie.Need-returns
 returns c = rw (c .before .part .ensures)

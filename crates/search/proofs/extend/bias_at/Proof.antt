@@ -1,7 +1,7 @@
 -- `search::extend::bias_at` meets its contract.
 -- Assumes nothing.
 use mathlib.Core.Path.{ap}
-use Rattle.hints.specs.declared.distances.RefHint.{RefHint}
+use Rattle.frame.specs.declared.hints.distances.RefHint.{RefHint}
 use Rattle.layout.specs.FrameBytes.{frameAt}
 use Rattle.search.specs.Extend.{biasAt}
 use borrow.Author.Needs.{needs}

@@ -1,7 +1,7 @@
 -- `search::extend::compound_extra` meets its contract.
 -- Assumes nothing.
 use native.Mathlib.Omega.{arith}
-use Rattle.stack.specs.Numbers.{foundAt}
+use Rattle.stack.specs.Code.Numbers.{foundAt}
 use Rattle.search.proofs.Extends.{compound-stops, compound-stops₂, compound-ends}
 use borrow.Author.Needs.{needs}
 use Rattle.search.proofs.extend.compound_extra.Statement.{statement}

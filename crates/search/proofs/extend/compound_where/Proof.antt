@@ -2,7 +2,7 @@
 -- Assumes nothing.
 use mathlib.Core.Path.{_∙_}
 use borrow.Author.Tests.{eq-eqb}
-use Rattle.extra.specs.Walk.{pooled}
+use Rattle.search.specs.Code.Walk.{pooled}
 use Rattle.search.specs.Extend.{compoundWhere}
 use Rattle.search.proofs.Extends.{near-lent, compound-is}
 use borrow.Author.Needs.{needs}

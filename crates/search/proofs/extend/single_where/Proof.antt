@@ -2,7 +2,7 @@
 -- Assumes nothing.
 use mathlib.Core.Path.{_∙_}
 use borrow.Author.Tests.{eq-eqb}
-use Rattle.stack.specs.Answered.{outcome}
+use Rattle.stack.specs.Code.Found.{outcome}
 use Rattle.search.specs.Extend.{singleWhere}
 use Rattle.search.proofs.Extends.{near-lent, single-is}
 use borrow.Author.Needs.{needs}

@@ -22,10 +22,10 @@ matches-requires : tie.Need-matches-requires
 matches-requires c κs = search needs
 
 count-in-requires : tie.Need-count-in-requires
-count-in-requires c κs = search needs
+count-in-requires c κs = c .before .before .before .before .before .before .before .before .before .before .before .before .pre .3 .size
 
-lesser-requires : tie.Need-lesser-requires
-lesser-requires c κs = search needs
+least-requires : tie.Need-least-requires
+least-requires c κs = search needs
 
 sort-parts-requires : tie.Need-sort-parts-requires
 sort-parts-requires c κs = search needs
@@ -53,7 +53,7 @@ returns c =
     let o = c .before .before .before .before .before .before .before .before .before in
     let m = c .before .before .before .before .before .before .before .before .before .before .before .before .before .before .before .before .before .before in
     let s = m .before .before .before .before .before .before in
-    let v = sorts (s .args .near .count) (s .args .s .now) _ (s .pre .3) (o .before .before .count-in .ensures) (o .before .lesser .ensures) (o .sort-parts .ensures .2) in
+    let v = sorts (s .args .near .count) (s .args .s .now) _ (s .pre .3) (o .before .before .count-in .ensures) (o .before .least .ensures) (o .sort-parts .ensures .2) in
     let x = extra-asked _ _ _ (s .args .a) (m .before .sizes-at .ensures) (c .before .before .before .before .before .before .records .ensures) (m .site-of .ensures) (c .before .before .before .before .before .before .before .before .before .before .before .before .before .before .before .before .global-of .ensures) v (e .1) in
     (e .0, is-refused _ _ (c .refuse .ensures) (c .before .if1 .taken) ∙ sym (concludes-not _ _ _ _ _ _ _ _ _ (x ∙ answers.is-refused _ _ (c .before .if1 .taken))))
 
@@ -82,7 +82,7 @@ returns-2 c =
     let z = m .before .sizes-at .ensures in
     let b = m .site-of .ensures in
     let n = s .args .near in
-    let v = sorts (n .count) (s .args .s .now) _ (s .pre .3) (o .before .before .count-in .ensures) (o .before .lesser .ensures) (o .sort-parts .ensures .2) in
+    let v = sorts (n .count) (s .args .s .now) _ (s .pre .3) (o .before .before .count-in .ensures) (o .before .least .ensures) (o .sort-parts .ensures .2) in
     let x = extra-asked _ _ _ (s .args .a) z (e .before .before .records .ensures) b (g .global-of .ensures) v (e .extend .ensures .1) in (
       c .before .before .before .before .before .clamp .ensures .0,
       ends _ _ _ (s .args .a) (s .args .zero) (n .count) (n .matched) (n .newmv) _ _ _ (x ∙ answers.is-found _ _ (c .before .before .before .before .before .before .before .before .if1 .left)) (c .before .before .before .before .before .clamp .ensures .2)
@@ -100,7 +100,7 @@ conclude-spec =
     global-of-requires
     matches-requires
     count-in-requires
-    lesser-requires
+    least-requires
     sort-parts-requires
     records-requires
     extend-requires

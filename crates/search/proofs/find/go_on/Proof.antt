@@ -2,10 +2,10 @@
 -- Assumes nothing.
 use mathlib.Core.Path.{sym, _∙_}
 use native.Mathlib.Omega.{arith}
-use Rattle.around.proofs.Steps.{went-on, went-not}
+use Rattle.spatial.proofs.around.Steps.{went-on, went-not}
 use Rattle.stack.proofs.Answers as answers
-use Rattle.front.proofs.Fronts.{passed}
-use Rattle.search.proofs.Temporals.{proj-fits, header-byte, room}
+use Rattle.search.proofs.front.Fronts.{passed}
+use Rattle.search.proofs.Temporals.{proj-fits, header-flag, room}
 use Rattle.search.proofs.Finds.{is-refused, past, sizes-fit, placed, lends, taken, timed-light, far-light, timed-asked, still-asked, far-asked, goes-not, goes-no-farther, goes-on}
 use borrow.Author.Needs.{needs}
 use Rattle.search.proofs.find.go_on.Statement.{statement}
@@ -17,11 +17,11 @@ sizes-at-requires c κs = search needs
 site-of-requires : tie.Need-site-of-requires
 site-of-requires c κs = search needs
 
-shared-slice-read-on : tie.Need-shared-slice-read-on
-shared-slice-read-on c = search needs
+is-timed-requires : tie.Need-is-timed-requires
+is-timed-requires c κs = search needs
 
-shared-slice-read-header : tie.Need-shared-slice-read-header
-shared-slice-read-header c = search needs
+temporal-in-requires : tie.Need-temporal-in-requires
+temporal-in-requires c κs = search needs
 
 aim-of-requires : tie.Need-aim-of-requires
 aim-of-requires c κs = search needs
@@ -46,7 +46,7 @@ temporal-where-requires c κs =
     let s = f .before .before .before .before .before .before .before .before .before .before .before in
     let r = c .before .before .before .raise .ensures in
     let p = passed _ _ _ _ _ (s .pre .0) in (
-      room _ _ _ (f .before .before .before .before .before .sizes-at .ensures) (f .before .before .before .before .site-of .ensures) (f .field-of .ensures) (f .before .aim-of .ensures) p (proj-fits _ (λ i. f .before .before .before .before .before .before .before .before .before .shared-slice-known2 .given i .fits)),
+      room _ _ _ (f .before .before .before .before .before .sizes-at .ensures) (f .before .before .before .before .site-of .ensures) (f .field-of .ensures) (f .before .aim-of .ensures) (f .before .before .before .is-timed .ensures) p (proj-fits _ (λ i. f .before .before .before .before .before .before .before .before .before .shared-slice-known2 .given i .fits)),
       r .0,
       timed-light (s .pre .5) (r .3),
     )
@@ -61,7 +61,7 @@ returns : tie.Need-returns
 returns c =
     let w = c .before .before .before .before .temporal-where .ensures in
     let f = c .before .before .before .before .before .before .before .before .before .before .before .before in
-    let t = timed-asked _ _ _ (f .before .before .before .before .before .sizes-at .ensures) (f .before .before .before .before .site-of .ensures) _ (f .field-of .ensures) (f .before .aim-of .ensures) _ (c .before .before .before .before .before .before .before .before .raise .ensures .2) (w .1) in
+    let t = timed-asked _ _ _ (f .before .before .before .before .before .sizes-at .ensures) (f .before .before .before .before .site-of .ensures) _ (f .field-of .ensures) (f .before .aim-of .ensures) (f .before .before .before .is-timed .ensures) _ (c .before .before .before .before .before .before .before .before .raise .ensures .2) (w .1) in
     (w .0 .0, is-refused _ _ (c .refuse .ensures) (c .before .if1 .taken) ∙ sym (goes-not _ _ _ _ _ _ _ _ (t ∙ answers.is-refused _ _ (c .before .if1 .taken))))
 
 records-requires : tie.Need-records-requires
@@ -94,7 +94,7 @@ returns-2 c =
     let f = w .before .before .before .before .before .before .before .before in
     let z = f .before .before .before .before .before .sizes-at .ensures in
     let b = f .before .before .before .before .site-of .ensures in
-    let t = timed-asked _ _ _ z b _ (f .field-of .ensures) (f .before .aim-of .ensures) _ (w .before .before .before .before .raise .ensures .2) (w .temporal-where .ensures .1) ∙ answers.is-found _ _ (c .before .before .before .before .before .before .before .before .before .if1 .left) in
+    let t = timed-asked _ _ _ z b _ (f .field-of .ensures) (f .before .aim-of .ensures) (f .before .before .before .is-timed .ensures) _ (w .before .before .before .before .raise .ensures .2) (w .temporal-where .ensures .1) ∙ answers.is-found _ _ (c .before .before .before .before .before .before .before .before .before .if1 .left) in
     let g = far-asked _ _ _ z b _ _ _ _ (c .before .before .before .before .before .before .before .before .records .ensures) (c .before .before .before .before .before .before .before .want-of .ensures) (c .before .before .before .before .before .far .ensures .1) in
     (c .before .before .before .before .before .far .ensures .0, is-refused _ _ (c .refuse2 .ensures) (c .before .if2 .taken) ∙ sym (goes-no-farther _ _ _ _ _ _ _ _ t (g ∙ went-not _ _ (c .before .if2 .taken))))
 
@@ -103,7 +103,7 @@ zero-where-requires c κs =
     let f = c .before .before .before .before .before .before .before .before .before .before .before .before .before .before .before .before .before .before .before in
     let s = f .before .before .before .before .before .before .before .before .before .before .before in
     let p = passed _ _ _ _ _ (s .pre .0) in
-    (room _ _ _ (f .before .before .before .before .before .sizes-at .ensures) (f .before .before .before .before .site-of .ensures) (f .field-of .ensures) (f .before .aim-of .ensures) p (proj-fits _ (λ i. f .before .before .before .before .before .before .before .before .before .shared-slice-known2 .given i .fits)), header-byte _ (p .well))
+    (room _ _ _ (f .before .before .before .before .before .sizes-at .ensures) (f .before .before .before .before .site-of .ensures) (f .field-of .ensures) (f .before .aim-of .ensures) (f .before .before .before .is-timed .ensures) p (proj-fits _ (λ i. f .before .before .before .before .before .before .before .before .before .shared-slice-known2 .given i .fits)), omega (arith, header-flag _ (p .well), f .before .before .temporal-in .ensures))
 
 conclude-requires : tie.Need-conclude-requires
 conclude-requires c κs =
@@ -123,9 +123,10 @@ returns-3 c =
     let b = f .before .before .before .before .site-of .ensures in
     let fe = f .field-of .ensures in
     let me = f .before .aim-of .ensures in
-    let t = timed-asked _ _ _ z b _ fe me _ (w .before .before .before .before .raise .ensures .2) (w .temporal-where .ensures .1) ∙ answers.is-found _ _ (c .before .before .before .before .before .before .before .before .before .before .before .before .before .if1 .left) in
+    let oe = f .before .before .before .is-timed .ensures in
+    let t = timed-asked _ _ _ z b _ fe me oe _ (w .before .before .before .before .raise .ensures .2) (w .temporal-where .ensures .1) ∙ answers.is-found _ _ (c .before .before .before .before .before .before .before .before .before .before .before .before .before .if1 .left) in
     let g = far-asked _ _ _ z b _ _ _ _ (c .before .before .before .before .before .before .before .before .before .before .before .before .records .ensures) (c .before .before .before .before .before .before .before .before .before .before .before .want-of .ensures) (c .before .before .before .before .before .before .before .before .before .far .ensures .1) ∙ went-on _ _ (c .before .before .before .before .before .if2 .left) in
-    let h = still-asked _ _ _ z b _ fe me (c .before .before .before .before .zero-where .ensures .0) in
+    let h = still-asked _ _ _ z b _ fe me oe (f .before .before .temporal-in .ensures) (c .before .before .before .before .zero-where .ensures .0) in
     let e = c .before .before .conclude .ensures in
     (e .0, e .1 ∙ taken _ _ _ _ _ _ _ (f .before .before .before .before .before .before .before .before .before .before .before .pre .4) (n .take-nearest .ensures .0) ∙ goes-on _ _ _ _ _ _ _ _ t h g)
 
@@ -135,8 +136,8 @@ go-on-spec =
     (tie.spec
     sizes-at-requires
     site-of-requires
-    shared-slice-read-on
-    shared-slice-read-header
+    is-timed-requires
+    temporal-in-requires
     aim-of-requires
     field-of-requires
     take-nearest-requires

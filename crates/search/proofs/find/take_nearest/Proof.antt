@@ -1,6 +1,6 @@
 -- `search::find::take_nearest` meets its contract.
 -- Assumes nothing.
-use Rattle.stack.specs.Stack.{view}
+use Rattle.stack.specs.Code.Found.{view}
 use borrow.Author.Needs.{needs}
 use Rattle.search.proofs.find.take_nearest.Statement.{statement}
 use Rattle.search.proofs.find.take_nearest.Tie as tie

@@ -4,7 +4,7 @@ use mathlib.Core.Path.{sym, _∙_}
 use mir.Syntax.{w16}
 use Rattle.ground.proofs.Bits.{same}
 use Rattle.layout.specs.FrameBytes.{frameAt}
-use Rattle.extra.specs.Lists.{isRef}
+use Rattle.cells.specs.Cell.{isRef}
 use Rattle.search.specs.Parts.{distanceTo}
 use borrow.Author.Needs.{needs}
 use Rattle.search.proofs.parts.distance_to.Statement.{statement}

@@ -1,7 +1,7 @@
 -- `search::parts::temporal_where` meets its contract.
 -- Assumes nothing.
 use native.Mathlib.Omega.{arith}
-use Rattle.stack.specs.Answered.{outcome}
+use Rattle.stack.specs.Code.Found.{outcome}
 use Rattle.search.specs.Parts.{temporalWhere}
 use borrow.Author.Needs.{needs}
 use Rattle.search.proofs.parts.temporal_where.Statement.{statement}

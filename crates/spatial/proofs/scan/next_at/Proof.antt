@@ -5,7 +5,7 @@ use Rattle.spatial.specs.Scan.{nextOf}
 use borrow.Author.Needs.{needs}
 use Rattle.spatial.proofs.scan.next_at.Statement.{statement}
 use Rattle.spatial.proofs.scan.next_at.Tie as tie
-use Rattle.neighbours.proofs.read.neighbour_at.Reads as neighbour-at-reads
+use Rattle.spatial.proofs.neighbours.read.neighbour_at.Reads as neighbour-at-reads
 
 neighbour-at-requires : tie.Need-neighbour-at-requires
 neighbour-at-requires c κs = search needs
@@ -19,12 +19,12 @@ enum-known-k c = search needs
 along-requires : tie.Need-along-requires
 along-requires c κs = search needs
 
-larger-requires : tie.Need-larger-requires
-larger-requires c κs = search needs
+most-requires : tie.Need-most-requires
+most-requires c κs = search needs
 
 returns : tie.Need-returns
 unfolding nextOf
-returns c = rw (← c .before .before .before .before .before .before .before .neighbour-at .ensures, c .before .before .before .before .before .k .given .1, ← c .before .before .before .along .ensures, lt-ltb _ _ (c .before .if1 .taken), ← c .larger .ensures)
+returns c = rw (← c .before .before .before .before .before .before .before .before .neighbour-at .ensures, c .before .before .before .before .before .before .k .given .1, ← c .before .before .before .before .along .ensures, lt-ltb _ _ (c .before .if1 .taken), ← c .most .ensures)
 
 returns-2 : tie.Need-returns-2
 unfolding nextOf
@@ -32,7 +32,7 @@ returns-2 c = rw (← c .before .before .before .neighbour-at .ensures, c .befor
 
 returns-3 : tie.Need-returns-3
 unfolding nextOf
-returns-3 c = rw (← c .before .before .before .before .before .before .neighbour-at .ensures, c .before .before .before .before .k .given .1, ← c .before .before .along .ensures, le-ltb _ _ (c .if1 .left))
+returns-3 c = rw (← c .before .before .before .before .before .before .before .neighbour-at .ensures, c .before .before .before .before .before .k .given .1, ← c .before .before .before .along .ensures, le-ltb _ _ (c .if1 .left))
 
 pub next-at-spec : {M : Type 1} → statement M
 next-at-spec =
@@ -42,7 +42,7 @@ next-at-spec =
     enum-known-n
     enum-known-k
     along-requires
-    larger-requires
+    most-requires
     returns
     returns-2
     returns-3)

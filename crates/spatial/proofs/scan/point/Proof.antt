@@ -2,10 +2,11 @@
 -- Assumes nothing.
 use native.Mathlib.Omega.{arith}
 use denote.Ref.{now}
-use Rattle.stack.specs.Numbers.{foundAt}
+use Rattle.stack.specs.Code.Numbers.{foundAt}
 use Rattle.layout.specs.TileBytes.{tileAt}
-use Rattle.neighbours.proofs.Known.{told, is-some}
-use Rattle.spatial.specs.Scan.{outcome, pointOf}
+use Rattle.spatial.proofs.neighbours.Known.{told, is-some}
+use Rattle.spatial.specs.Code.Scan.{scanned}
+use Rattle.spatial.specs.Scan.{pointOf}
 use Rattle.spatial.proofs.Scans.{not-found}
 use borrow.Author.Needs.{needs}
 use Rattle.spatial.proofs.scan.point.Statement.{statement}
@@ -30,14 +31,14 @@ returns c =
     let a = f .args in
     let e = c .before .before .before .read-at .ensures in
     let n = c .before .n .given .1 in
-    let s = is-some (told (tileAt (now (a .tile)) .rows) (now (a .recs)) (a .total) (a .e) (a .col)) e n in
+    let s = is-some (told (tileAt (now (a .tile)) .rows) (now (a .recs)) (a .total) (a .e) (a .col .0)) e n in
     ((f .pre .2, omega arith), rw (← e, n) (not-found _ (foundAt (a .s .now)) s))
 
 same-length : tie.Need-same-length
 same-length c = search needs
 
 returns-2 : tie.Need-returns-2
-unfolding pointOf outcome
+unfolding pointOf scanned
 returns-2 c =
     let t = c .before .before .add-spatial .ensures in
     ((t .0, t .2), rw (← c .before .before .before .before .before .before .before .read-at .ensures, c .before .before .before .before .before .k .given .1, t .1))

@@ -3,9 +3,9 @@
 use native.Mathlib.Omega.{arith}
 use lib.Dec.{lit≤}
 use denote.Ref.{now}
-use Rattle.stack.specs.Numbers.{foundAt}
+use Rattle.stack.specs.Code.Numbers.{foundAt}
 use Rattle.layout.specs.TileBytes.{tileAt}
-use Rattle.neighbours.proofs.Known.{told-line, is-known, is-some}
+use Rattle.spatial.proofs.neighbours.Known.{told-line, is-known, is-some}
 use Rattle.spatial.specs.Scan.{scanOf}
 use Rattle.spatial.proofs.Scans.{sides, not-found}
 use borrow.Author.Needs.{needs}

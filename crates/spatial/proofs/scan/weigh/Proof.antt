@@ -10,18 +10,18 @@ returns : tie.Need-returns
 unfolding weightOf
 returns c = rw (eq-eqb _ _ (c .if1 .taken))
 
-mul-smaller : tie.Need-mul-smaller
-mul-smaller c = search needs
+mul-least : tie.Need-mul-least
+mul-least c = search needs
 
-smaller-requires : tie.Need-smaller-requires
-smaller-requires c κs = search needs
+least-requires : tie.Need-least-requires
+least-requires c κs = search needs
 
-larger-requires : tie.Need-larger-requires
-larger-requires c κs = search needs
+most-requires : tie.Need-most-requires
+most-requires c κs = search needs
 
 returns-2 : tie.Need-returns-2
 unfolding weightOf
-returns-2 c = rw (ne-eqb _ _ (c .before .before .before .if1 .left), ← c .before .smaller .ensures) (c .larger .ensures)
+returns-2 c = rw (ne-eqb _ _ (c .before .before .before .if1 .left), ← c .before .least .ensures) (c .most .ensures)
 
 pub weigh-spec : {M : Type 1} → statement M
-weigh-spec = tie.close (tie.spec returns mul-smaller smaller-requires larger-requires returns-2)
+weigh-spec = tie.close (tie.spec returns mul-least least-requires most-requires returns-2)

@@ -2,7 +2,7 @@
 -- Assumes nothing.
 use mathlib.Core.Path.{_∙_}
 use native.Mathlib.Omega.{arith}
-use Rattle.stack.specs.Numbers.{viewAt}
+use Rattle.stack.specs.Code.Numbers.{viewAt}
 use Rattle.spatial.proofs.Notes.{notes, none, some}
 use borrow.Author.Needs.{needs}
 use Rattle.spatial.proofs.take.add_spatial.Statement.{statement}

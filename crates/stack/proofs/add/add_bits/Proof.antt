@@ -2,8 +2,8 @@
 -- Assumes nothing.
 use mathlib.Core.Path.{ap, _∙_}
 use borrow.Author.Needs.{needs}
-use Rattle.stack.specs.Stack.{view}
-use Rattle.stack.specs.Numbers.{foundAt, pairIn}
+use Rattle.stack.specs.Code.Found.{view}
+use Rattle.stack.specs.Code.Numbers.{foundAt, pairIn}
 use Rattle.stack.proofs.Adds.{hit, behind, no-room, heft-joined}
 use Rattle.stack.proofs.add.add_bits.Statement.{statement}
 use Rattle.stack.proofs.add.add_bits.Tie as tie

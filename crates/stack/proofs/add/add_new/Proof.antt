@@ -3,7 +3,7 @@
 use mathlib.Core.Path.{ap, _∙_}
 use native.Mathlib.Omega.{arith}
 use borrow.Author.Needs.{needs}
-use Rattle.stack.specs.Stack.{view, appended}
+use Rattle.stack.specs.Code.Found.{Found, view, appended}
 use Rattle.stack.proofs.Helds.{FitsPair, holds}
 use Rattle.stack.proofs.Adds.{new, old}
 use Rattle.stack.proofs.add.add_new.Statement.{statement}
@@ -33,7 +33,7 @@ returns c =
     let f : FitsPair (s .args .p) = record { first = record { y = search needs; x = search needs }; second = record { y = search needs; x = search needs } } in
     let e = holds (s .args .p) f (g .before .before .pair-bits .ensures) in
     let n = new (s .args .s .now) (s .pre .0) _ (g .seek .ensures) (search needs) (s .pre .1) in
-    (t .0, rw (t .1) (omega arith), rw (← e) (ap view (t .1) ∙ n))
+    (t .0, omega (arith, ap (λ (f : Found). f .count) (t .1)), rw (← e) (ap view (t .1) ∙ n))
 
 same-length-2 : tie.Need-same-length-2
 same-length-2 c = search needs

@@ -1,9 +1,9 @@
 -- `stack::add::push` meets its contract.
 -- Assumes nothing.
-use mathlib.Core.Path.{ap, _∙_}
+use mathlib.Core.Path.{sym, ap, _∙_}
 use native.Mathlib.Numerals.{add-one}
 use borrow.Author.Needs.{needs}
-use Rattle.stack.specs.Stack.{view, appended}
+use Rattle.stack.specs.Code.Found.{Found, view, appended}
 use Rattle.stack.proofs.Helds.{FitsPair, holds}
 use Rattle.stack.proofs.Adds.{pushes}
 use Rattle.stack.proofs.add.push.Statement.{statement}
@@ -28,7 +28,7 @@ returns c =
     let s = c .before .before .before .before .before .before .before .before in
     let f : FitsPair (s .args .p) = record { first = record { y = search needs; x = search needs }; second = record { y = search needs; x = search needs } } in
     let e = holds (s .args .p) f (c .before .before .before .pair-bits .ensures) in
-    (t .0, rw (t .1, add-one), rw (← e) (ap view (t .1) ∙ pushes (s .args .s .now) _ (s .pre .1)))
+    (t .0, ap (λ (f : Found). f .count) (t .1) ∙ sym (add-one _), rw (← e) (ap view (t .1) ∙ pushes (s .args .s .now) _ (s .pre .1)))
 
 pub push-spec : {M : Type 1} → statement M
 push-spec =

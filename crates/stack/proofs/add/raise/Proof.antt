@@ -4,8 +4,9 @@ use mathlib.Core.Path.{refl}
 use Prim.Native.Nat.{_-_, _≤_}
 use native.Mathlib.Omega.{arith}
 use borrow.Author.Needs.{needs}
-use Rattle.stack.specs.Stack.{live, heavier, weightier, raised, view}
-use Rattle.stack.specs.Numbers.{foundAt, Held}
+use Rattle.stack.specs.Code.Found.{live, weightier, view}
+use Rattle.stack.specs.Stack.{heavier, raised}
+use Rattle.stack.specs.Code.Numbers.{foundAt, Held}
 use Rattle.stack.proofs.Counts.{heft-raised}
 use Rattle.stack.proofs.Helds.{stack-long}
 use Rattle.stack.proofs.Adds.{in-use, weight-kept, gains}

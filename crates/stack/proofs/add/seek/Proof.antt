@@ -6,8 +6,9 @@ use native.Mathlib.Nat.{zero-add}
 use native.Mathlib.Omega.{arith}
 use lib.ListN.{drop}
 use borrow.Author.Needs.{needs}
-use Rattle.stack.specs.Stack.{live, findIn}
-use Rattle.stack.specs.Numbers.{pairIn, foundAt}
+use Rattle.stack.specs.Code.Found.{live}
+use Rattle.stack.specs.Stack.{findIn}
+use Rattle.stack.specs.Code.Numbers.{pairIn, foundAt}
 use Rattle.stack.proofs.Adds.{stops, goes-on, at-end}
 use Rattle.stack.proofs.add.seek.Statement.{statement}
 use Rattle.stack.proofs.add.seek.Tie as tie

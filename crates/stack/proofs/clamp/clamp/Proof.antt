@@ -4,10 +4,11 @@ use mathlib.Core.Path.{_≡_, sym, _∙_}
 use Prim.Native.Nat.{_-_, _≤_}
 use native.Mathlib.Omega.{arith}
 use borrow.Author.Needs.{needs}
-use Rattle.stack.specs.Stack.{view}
-use Rattle.stack.specs.Numbers.{foundAt, Held}
+use Rattle.stack.specs.Code.Found.{view}
+use Rattle.stack.specs.Code.Numbers.{foundAt, Held}
 use Rattle.stack.specs.declared.clamp.Reach.{Reach}
-use Rattle.stack.specs.Clamp.{boundsOf, clampedOne, clamped}
+use Rattle.stack.specs.Code.Clamp.{boundsOf}
+use Rattle.stack.specs.Clamp.{clampedOne, clamped}
 use Rattle.stack.proofs.Helds.{stack-long}
 use Rattle.stack.proofs.Maps.{Turned, starts, same-count, ends}
 use Rattle.stack.proofs.Clips.{clamps-any}

@@ -6,25 +6,25 @@ use borrow.Author.Needs.{needs}
 use Rattle.ground.specs.Sign.{clip3}
 use Rattle.ground.proofs.Bits.{kept, same}
 use Rattle.vector.proofs.Vectors.{vector}
-use Rattle.stack.specs.Clamp.{heldMv}
+use Rattle.stack.specs.Code.Clamp.{clippedMv}
 use Rattle.stack.proofs.clamp.clamp_mv.Statement.{statement}
 use Rattle.stack.proofs.clamp.clamp_mv.Tie as tie
 
-held-requires : tie.Need-held-requires
-held-requires c κs = search needs
+clip-requires : tie.Need-clip-requires
+clip-requires c κs = search needs
 
-held-requires-2 : tie.Need-held-requires-2
-held-requires-2 c κs = search needs
+clip-requires-2 : tie.Need-clip-requires-2
+clip-requires-2 c κs = search needs
 
 returns : tie.Need-returns
-unfolding heldMv
+unfolding clippedMv
 returns c =
     let x = c .before in
     let y = c .before .before .before .before in
     let a = y .before .before .before .before .args in
     vector
-    (kept w16 (y .held .ok) (y .held .ensures ∙ (λ t. clip3 (same w16 (a .b .up) (y .before .before .struct-told2 .given .0 .1) t) (same w16 (a .b .down) (y .before .struct-told3 .given .1 .0 .1) t) (same w16 (a .v .y) (y .before .before .before .struct-told .given .0 .1) t))))
-    (kept w16 (c .held2 .ok) (c .held2 .ensures ∙ (λ t. clip3 (same w16 (a .b .left) (x .before .struct-told5 .given .1 .1 .0 .1) t) (same w16 (a .b .right) (x .struct-told6 .given .1 .1 .1 .0 .1) t) (same w16 (a .v .x) (x .before .before .struct-told4 .given .1 .0 .1) t))))
+    (kept w16 (y .clip .ok) (y .clip .ensures ∙ (λ t. clip3 (same w16 (a .b .up) (y .before .before .struct-told2 .given .0 .1) t) (same w16 (a .b .down) (y .before .struct-told3 .given .1 .0 .1) t) (same w16 (a .v .y) (y .before .before .before .struct-told .given .0 .1) t))))
+    (kept w16 (c .clip2 .ok) (c .clip2 .ensures ∙ (λ t. clip3 (same w16 (a .b .left) (x .before .struct-told5 .given .1 .1 .0 .1) t) (same w16 (a .b .right) (x .struct-told6 .given .1 .1 .1 .0 .1) t) (same w16 (a .v .x) (x .before .before .struct-told4 .given .1 .0 .1) t))))
 
 pub clamp-mv-spec : {M : Type 1} → statement M
-clamp-mv-spec = tie.close (tie.spec held-requires held-requires-2 returns)
+clamp-mv-spec = tie.close (tie.spec clip-requires clip-requires-2 returns)

@@ -1,7 +1,7 @@
 -- `stack::numbers::candidate_in` meets its contract.
 -- Assumes nothing.
 use borrow.Author.Needs.{needs}
-use Rattle.stack.specs.Numbers.{candAt}
+use Rattle.stack.specs.Code.Numbers.{candAt}
 use Rattle.stack.proofs.numbers.candidate_in.Statement.{statement}
 use Rattle.stack.proofs.numbers.candidate_in.Tie as tie
 

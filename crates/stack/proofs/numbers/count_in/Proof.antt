@@ -2,7 +2,7 @@
 -- Assumes nothing.
 use mathlib.Core.Path.{refl}
 use borrow.Author.Needs.{needs}
-use Rattle.stack.specs.Numbers.{foundAt}
+use Rattle.stack.specs.Code.Numbers.{foundAt}
 use Rattle.stack.proofs.numbers.count_in.Statement.{statement}
 use Rattle.stack.proofs.numbers.count_in.Tie as tie
 

@@ -4,7 +4,7 @@ use mathlib.Core.Path.{ap, _∙_}
 use Prim.Native.Nat.{ℕ}
 use lib.ListN.{getD}
 use borrow.Author.Needs.{needs}
-use Rattle.stack.specs.Numbers.{isOn}
+use Rattle.stack.specs.Code.Numbers.{isOn}
 use Rattle.stack.proofs.Helds.{flag-is}
 use Rattle.stack.proofs.numbers.flag_in.Statement.{statement}
 use Rattle.stack.proofs.numbers.flag_in.Tie as tie

@@ -3,7 +3,7 @@
 use mathlib.Core.Path.{ap₂}
 use Prim.Native.Nat.{_+_, _*_}
 use borrow.Author.Needs.{needs}
-use Rattle.stack.specs.Numbers.{pairBits}
+use Rattle.stack.specs.Code.Numbers.{pairBits}
 use Rattle.stack.proofs.numbers.pair_bits.Statement.{statement}
 use Rattle.stack.proofs.numbers.pair_bits.Tie as tie
 

@@ -1,7 +1,7 @@
 -- `stack::numbers::pair_in` meets its contract.
 -- Assumes nothing.
 use borrow.Author.Needs.{needs}
-use Rattle.stack.specs.Numbers.{pairIn}
+use Rattle.stack.specs.Code.Numbers.{pairIn}
 use Rattle.stack.proofs.numbers.pair_in.Statement.{statement}
 use Rattle.stack.proofs.numbers.pair_in.Tie as tie
 

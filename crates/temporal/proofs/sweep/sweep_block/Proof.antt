@@ -3,7 +3,8 @@
 use mathlib.Core.Bool.{true, false}
 use native.Mathlib.Omega.{arith}
 use native.Mathlib.Nat.{mul-le-mul}
-use Rattle.site.proofs.Sides.{limit-most}
+use Rattle.frame.specs.extent.Sizes.{mostCells}
+use Rattle.spatial.proofs.site.Sides.{limit-most}
 use Rattle.temporal.specs.Sweep.{gridOf}
 use borrow.Author.Needs.{needs}
 use Rattle.temporal.proofs.sweep.sweep_block.Statement.{statement}
@@ -33,13 +34,13 @@ cells-along-requires-2 c κs =
 
 mul-sweep-grid : tie.Need-mul-sweep-grid
 mul-sweep-grid c =
-    let d = c .before .before .before .before .before in
-    let k = mul-le-mul {n₂ = 2} {m₂ = 4096} (d .stride-along2 .ensures .2) (d .before .before .before .before .pre .3 .stride) in
+    let d = c .before .before .before .before .before .before in
+    let k = mul-le-mul {n₂ = 2} {m₂ = mostCells} (d .stride-along2 .ensures .2) (d .before .before .before .before .pre .3 .stride) in
     record { fits = omega (arith, k) }
 
 sweep-grid-requires : tie.Need-sweep-grid-requires
 sweep-grid-requires c κs =
-    let m = c .before .before in
+    let m = c .before .before .before in
     let d = m .before .before .before .before in
     let s = d .before .before .before .before in (
       s .pre .0,
@@ -48,7 +49,7 @@ sweep-grid-requires c κs =
       m .before .before .cells-along .ensures .1,
       d .before .stride-along .ensures .2,
       m .cells-along2 .ensures .1,
-      mul-le-mul {n₂ = 2} {m₂ = 4096} (d .stride-along2 .ensures .2) (s .pre .3 .stride),
+      mul-le-mul {n₂ = 2} {m₂ = mostCells} (d .stride-along2 .ensures .2) (s .pre .3 .stride),
       s .pre .3 .first,
     )
 
@@ -59,7 +60,7 @@ returns : tie.Need-returns
 unfolding gridOf
 returns c =
     let g = c .before .before .sweep-grid .ensures in
-    let m = c .before .before .before .before .before in
+    let m = c .before .before .before .before .before .before in
     let n = m .before .before in
     let d = n .before .before in (
       (g .0 .0, omega (arith, g .0 .1, m .cells-along2 .ensures .1)),

@@ -3,7 +3,8 @@
 use mathlib.Core.Path.{_≡_, refl, sym, _∙_}
 use Prim.Native.Nat.{_+_, _*_, _≤_}
 use native.Mathlib.Omega.{arith}
-use Rattle.stack.specs.Numbers.{foundAt, viewAt, heftAt, Held}
+use Rattle.frame.specs.extent.Sizes.{mostCells}
+use Rattle.stack.specs.Code.Numbers.{foundAt, viewAt, heftAt, Held}
 use Rattle.stack.proofs.Answers.{is-found, is-refused}
 use Rattle.temporal.specs.Temporal.{cellRead}
 use Rattle.temporal.specs.Sweep.{inGrid}
@@ -13,8 +14,8 @@ use Rattle.temporal.proofs.sweep.sweep_grid.Tie as tie
 
 abbrev Inv-loop : tie.InvT-loop
 Inv-loop proj f step n down m a s₀ i₀ left₀ s i left =
-    (left ≤ m) × (i + 8192 * left ≤ f .first + 8192 * m) × Held s × (heftAt s + 16 * left ≤ heftAt s₀ + 16 * m)
-    × (inGrid (cellRead proj (f .total)) a step n down m (f .first) (viewAt s₀) ≡ inGrid (cellRead proj (f .total)) a step n down left i (viewAt s))
+    (left ≤ m) × (i + 2 * mostCells * left ≤ f .first + 2 * mostCells * m) × Held s × (heftAt s + 16 * left ≤ heftAt s₀ + 16 * m)
+    × (inGrid (cellRead proj (f .total)) a (step .0) n down m (f .first) (viewAt s₀) ≡ inGrid (cellRead proj (f .total)) a (step .0) n down left i (viewAt s))
 
 abbrev μ-loop : tie.MeasureT-loop
 μ-loop proj f step n down m a s₀ i₀ left₀ s i left = left

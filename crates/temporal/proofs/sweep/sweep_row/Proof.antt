@@ -3,7 +3,7 @@
 use mathlib.Core.Path.{_≡_, refl, sym, _∙_}
 use Prim.Native.Nat.{_+_, _*_, _≤_}
 use native.Mathlib.Omega.{arith}
-use Rattle.stack.specs.Numbers.{foundAt, viewAt, heftAt, Held}
+use Rattle.stack.specs.Code.Numbers.{foundAt, viewAt, heftAt, Held}
 use Rattle.stack.proofs.Answers.{is-found, is-refused}
 use Rattle.temporal.specs.Temporal.{cellRead}
 use Rattle.temporal.specs.Sweep.{inRow}
@@ -14,7 +14,7 @@ use Rattle.temporal.proofs.sweep.sweep_row.Tie as tie
 abbrev Inv-loop : tie.InvT-loop
 Inv-loop proj total first step n a s₀ i₀ left₀ s i left =
     (left ≤ n) × (i + 2 * left ≤ first + 2 * n) × Held s × (heftAt s + 2 * left ≤ heftAt s₀ + 2 * n)
-    × (inRow (cellRead proj total) a step n first (viewAt s₀) ≡ inRow (cellRead proj total) a step left i (viewAt s))
+    × (inRow (cellRead proj total) a (step .0) n first (viewAt s₀) ≡ inRow (cellRead proj total) a (step .0) left i (viewAt s))
 
 abbrev μ-loop : tie.MeasureT-loop
 μ-loop proj total first step n a s₀ i₀ left₀ s i left = left
@@ -51,9 +51,9 @@ loop-less c = omega arith
 
 loop-again : tie.Need-loop-again Inv-loop μ-loop
 loop-again c =
-    let r = c .before .before .before in
+    let r = c .before .before .before .before in
     let l = r .before .before .before .loop in
-    let e = turns-on (row-turns _ _ _) (l .left) (r .before .before .loop-test .taken) (r .visit .ensures .1) (is-found _ _ (c .if1 .left)) (l .inv .4) in
+    let e = turns-on (row-turns _ _ _) (l .left) (r .before .before .loop-test .taken) (r .visit .ensures .1) (is-found _ _ (c .before .if1 .left)) (l .inv .4) in
     (omega arith, omega arith, r .visit .ensures .0 .0, omega arith, e)
 
 same-length-2 : tie.Need-same-length-2 Inv-loop μ-loop

@@ -3,7 +3,7 @@
 use mathlib.Core.Path.{sym, _∙_}
 use native.Mathlib.Omega.{arith}
 use denote.Ref.{now}
-use Rattle.stack.specs.Numbers.{foundAt}
+use Rattle.stack.specs.Code.Numbers.{foundAt}
 use Rattle.temporal.proofs.Aims.{read-of}
 use Rattle.temporal.proofs.Sweeps.{visit-refused, visit-absent, visit-joined}
 use borrow.Author.Needs.{needs}

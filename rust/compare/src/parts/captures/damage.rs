@@ -1,3 +1,5 @@
+//! Capture files with something changed.
+
 use super::player::Lens;
 use shared::captures;
 use shared::captures::Part;

@@ -4,6 +4,7 @@
 mod damage;
 mod player;
 
+use crate::names;
 use crate::options::Extent;
 use crate::options::Options;
 use crate::tally::Tally;
@@ -31,7 +32,7 @@ const DAMAGED: [&str; 3] = [
 const BYTES: [u8; 5] = [0, 1, 127, 128, 255];
 
 pub fn compare(options: &Options) -> Result<Tally, String> {
-    let mut random = options.random(super::CAPTURES);
+    let mut random = options.random(names::CAPTURES);
     let mut tally = Tally::default();
     let player = Player::new(&mut random);
     let folder = match &options.extent {

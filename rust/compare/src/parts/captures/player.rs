@@ -1,3 +1,5 @@
+//! A capture file played by the library and by the Rust, and what each left.
+
 use crate::codec;
 use crate::tally::Tally;
 use jaskkovir::calls;

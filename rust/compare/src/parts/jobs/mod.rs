@@ -6,6 +6,7 @@ mod question;
 
 use crate::desk::Desk;
 use crate::frames;
+use crate::names;
 use crate::options::Options;
 use crate::tally::Tally;
 use play::Play;
@@ -16,7 +17,7 @@ use question::Question;
 const ON_A_FRAME: u64 = 50;
 
 pub fn compare(options: &Options) -> Result<Tally, String> {
-    let mut random = options.random("jobs");
+    let mut random = options.random(names::JOBS);
     let mut tally = Tally::default();
     let mut steps = Steps::default();
     for i in 0..options.cases(50_000, 1_000_000) / ON_A_FRAME {

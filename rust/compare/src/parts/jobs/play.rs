@@ -1,3 +1,5 @@
+//! A batch stepped by the library, beside what the paper says that each step answers.
+
 use super::question;
 use super::question::Question;
 use crate::desk::Desk;

@@ -1,3 +1,5 @@
+//! What an admission is asked: jobs, lent parts, and what is damaged of them.
+
 use crate::batches;
 use crate::codec;
 use crate::desk::Desk;

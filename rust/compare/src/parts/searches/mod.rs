@@ -6,6 +6,7 @@ mod question;
 use crate::codec;
 use crate::found::Left;
 use crate::frames;
+use crate::names;
 use crate::options::Options;
 use crate::tally::Tally;
 use cases::judge::fixes_the_same;
@@ -36,7 +37,7 @@ const MORE: usize = 17;
 const ASKS: usize = 100;
 
 pub fn compare(options: &Options) -> Result<Tally, String> {
-    let mut random = options.random("search");
+    let mut random = options.random(names::SEARCH);
     let mut tally = Tally::default();
     for i in 0..options.cases(3_000, 60_000) {
         let limits = match i % 300 {

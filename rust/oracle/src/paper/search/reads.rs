@@ -1,10 +1,12 @@
-use super::super::record_is_well_formed;
+//! The records and cells that a search reads, each judged and noted.
+
 use super::super::sizes::SIDES_OF;
-use super::super::CELL_LEN;
-use super::super::RECORD_LEN;
+use super::super::splat::record_is_well_formed;
 use super::listed_records;
 use super::Lent;
 use super::Mv;
+use crate::kept::CELL_LEN;
+use crate::kept::RECORD_LEN;
 
 pub(super) const INVALID: Mv = [-32_768; 2];
 

@@ -1,8 +1,10 @@
+//! The candidate stack as a list.
+
 use super::Mv;
+use crate::asked::Answer;
+use crate::asked::Candidate;
+use crate::asked::SLOTS;
 use crate::leaves::Vector;
-use crate::search::Answer;
-use crate::search::Candidate;
-use crate::search::SLOTS;
 
 /// Candidates that were found first outweigh all later ones.
 const LIFT: i64 = 640;

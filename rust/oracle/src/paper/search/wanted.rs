@@ -1,8 +1,10 @@
+//! What a search looks for, and what a neighbour has of it.
+
 use super::reads::Neighbour;
 use super::reads::INVALID;
 use super::FrameRecord;
 use super::Mv;
-use crate::search::Ask;
+use crate::asked::Ask;
 
 const ZERO: Mv = [0; 2];
 

@@ -5,12 +5,12 @@ use borrow.Author.Needs.{needs}
 use Rattle.rows.proofs.setup.TileRange.cut_to.Statement.{statement}
 use Rattle.rows.proofs.setup.TileRange.cut_to.Tie as tie
 
-lesser-requires : tie.Need-lesser-requires
-lesser-requires c κs = search needs
+least-requires : tie.Need-least-requires
+least-requires c κs = search needs
 
 returns : tie.Need-returns
 unfolding cutTo
-returns c = rw (c .lesser .ensures)
+returns c = rw (c .least .ensures)
 
 pub cut-to-spec : {M : Type 1} → statement M
-cut-to-spec = tie.close (tie.spec lesser-requires returns)
+cut-to-spec = tie.close (tie.spec least-requires returns)

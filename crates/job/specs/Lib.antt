@@ -1,5 +1,0 @@
--- Jobs and windows (document 01): a job's record, its bytes, and windows that share a cell.
-pub mod Job
-pub mod Bytes
-pub mod Needs
-pub mod Share

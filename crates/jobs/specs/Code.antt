@@ -1,0 +1,3 @@
+-- What only follows the code: a reader of the public contracts needs none of it.
+pub mod Step
+pub mod Admit
