@@ -5,7 +5,7 @@ ghost use Rattle.capture.specs.File.{well_file, scan_of, part_of, body_of};
 use crate::entries::{entries_of, entry_of, is_well, start_of};
 
 // Where the body of a kind starts and ends.
-#[derive(Drop)]
+#[derive(Clone, Copy)]
 pub enum Scan {
     Malformed,
     Absent,

@@ -9,13 +9,13 @@ use ground::read::word_at;
 use ground::twos::{byte_bits, signed_byte};
 use vector::mv::Mv;
 
-#[derive(Drop)]
+#[derive(Clone, Copy)]
 pub struct MvPair {
     pub first: Mv,
     pub second: Mv,
 }
 
-#[derive(Drop)]
+#[derive(Clone, Copy)]
 pub struct RefPair {
     pub first: Ref,
     pub second: Ref,
@@ -23,7 +23,7 @@ pub struct RefPair {
 
 // bs is the size code. mf's bit 0 says that the block has a global mode and is at least 8x8, bit 1
 // that its mode has a new vector.
-#[derive(Drop)]
+#[derive(Clone, Copy)]
 pub struct Block {
     pub mv: MvPair,
     pub refs: RefPair,

@@ -9,7 +9,7 @@ use ground::twos::{byte_bits, signed_byte};
 use vector::mv::Mv;
 
 // A reference frame, 1..7, INTRA or NONE; in a projected cell a distance, 1..31.
-#[derive(Drop)]
+#[derive(Clone, Copy)]
 pub struct Ref(pub i8);
 
 impl Ref {
@@ -45,7 +45,7 @@ impl Ref {
     }
 }
 
-#[derive(Drop)]
+#[derive(Clone, Copy)]
 pub struct Cell {
     pub mv: Mv,
     pub reference: Ref,

@@ -3,11 +3,11 @@
 ghost use Rattle.std.specs.Prelude.{◌≡◌, ◌+◌, ◌*◌, ◌/◌, ◌^◌, ◌<◌};
 
 // In units of 4 samples, as block records are.
-#[derive(Drop)]
+#[derive(Clone, Copy)]
 pub struct Pos4(pub usize);
 
 // In units of 8 samples, as motion cells are.
-#[derive(Drop)]
+#[derive(Clone, Copy)]
 pub struct Pos8(pub usize);
 
 impl Pos4 {

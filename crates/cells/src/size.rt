@@ -5,13 +5,13 @@ ghost use Rattle.cells.specs.Size.{bs, size_of};
 use crate::pos::Pos4;
 
 // A block's width and height.
-#[derive(Drop)]
+#[derive(Clone, Copy)]
 pub struct Dims {
     pub w: Pos4,
     pub h: Pos4,
 }
 
-#[derive(Drop)]
+#[derive(Clone, Copy)]
 pub enum Sized {
     Of(Dims),
     Refused,

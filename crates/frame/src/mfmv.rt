@@ -13,7 +13,7 @@ use ground::sign::{magnitude, negative};
 use vector::hint::get_poc_diff;
 
 // A reference more than 31 away is skipped: it counts as selected, and none of its cells lands.
-#[derive(Drop)]
+#[derive(Clone, Copy)]
 pub enum Ref2Cur {
     Skipped,
     At(i16),
@@ -21,7 +21,7 @@ pub enum Ref2Cur {
 
 // reference is counted from 0, LAST. ref2ref holds, for each reference of that frame, how far it lies
 // before that frame, or 0 where its cells are not projected.
-#[derive(Drop)]
+#[derive(Clone, Copy)]
 pub struct Mfmv {
     pub reference: u8,
     pub ref2cur: Ref2Cur,

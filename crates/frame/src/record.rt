@@ -11,7 +11,7 @@ use crate::mfmv::Mfmv;
 
 // use_ref_frame_mvs is 1 where a reference is selected, temporal is the header's flag. The first
 // n_mfmvs of mfmvs are selected.
-#[derive(Drop)]
+#[derive(Clone, Copy)]
 pub struct Frame {
     pub sizes: Sizes,
     pub use_ref_frame_mvs: u8,

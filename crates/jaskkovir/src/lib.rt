@@ -1,6 +1,8 @@
 // The functions exported to C and Rust, on lent bytes. Numbers pass as themselves, a lent part as a
 // pointer and a length. A frame record crosses as 109 bytes and a tile as 168, by `layout`; a job as 17,
 // by batches; a search's question as 24, by `search`.
+#![tactic(auto)]
+
 pub mod batches;
 mod blocks;
 pub mod captures;

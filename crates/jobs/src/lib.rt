@@ -1,4 +1,6 @@
 // Jobs: loads and saves as records, a batch of them admitted together, and one step of a job.
+#![tactic(auto)]
+
 pub mod admit;
 pub mod job;
 pub mod step;

@@ -13,7 +13,7 @@ use frame::record::Frame;
 use motion::loading::fields::Lent;
 
 // What a step answers: one more row done, nothing left to do, or a refusal number.
-#[derive(Drop)]
+#[derive(Clone, Copy)]
 pub enum Answer {
     Moved,
     Done,
@@ -21,7 +21,7 @@ pub enum Answer {
 }
 
 // A job's answer, and its steps done afterwards.
-#[derive(Drop)]
+#[derive(Clone, Copy)]
 pub struct Stepped {
     pub answer: Answer,
     pub done: usize,

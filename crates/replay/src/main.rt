@@ -1,4 +1,6 @@
 // Plays a capture from standard input, and prints what its jobs left (docs/REPLAY.md).
+#![tactic(auto)]
+
 mod cells_of;
 mod show;
 

@@ -11,7 +11,7 @@ use frame::extent::sizes::Sizes;
 use ground::bound::least;
 
 // From start to before end.
-#[derive(Drop)]
+#[derive(Clone, Copy)]
 pub struct TileRange {
     pub start: Pos4,
     pub end: Pos4,
@@ -20,7 +20,7 @@ pub struct TileRange {
 // A superblock row as a decoder comes to it: the tile's bounds, the superblock row's number, the
 // tile row's, and pass 1 or 2: a second pass over a frame has records of its own where frames are
 // decoded at once.
-#[derive(Drop)]
+#[derive(Clone, Copy)]
 pub struct SbRow {
     pub col: TileRange,
     pub row: TileRange,

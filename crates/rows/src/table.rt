@@ -8,13 +8,13 @@ ghost use Rattle.rows.specs.Table as tables;
 ghost use Rattle.rows.specs.Table.{row_of, offset_of, row_at, entry_at};
 
 // The number of a row's first record.
-#[derive(Drop)]
+#[derive(Clone, Copy)]
 pub enum Place {
     Absent,
     At(usize),
 }
 
-#[derive(Drop)]
+#[derive(Clone, Copy)]
 pub struct RowEntry {
     pub at: Place,
 }

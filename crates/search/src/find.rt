@@ -29,7 +29,7 @@ use vector::mv::Mv;
 
 // answer is 0, or a refusal, and then nothing is meant by the others, nor by what was found. fill stands for the slots below
 // two that a single search leaves empty.
-#[derive(Drop)]
+#[derive(Clone, Copy)]
 pub struct Findings {
     pub answer: u8,
     pub context: u8,
@@ -38,7 +38,7 @@ pub struct Findings {
 
 // How many candidates the near neighbours gave, on how many sides they matched, and whether one of
 // their modes has a new vector.
-#[derive(Drop)]
+#[derive(Clone, Copy)]
 struct Nearest {
     count: usize,
     matched: u8,

@@ -1,5 +1,7 @@
 // The candidate search, the Rust's `rav1d_refmvs_find`: what is asked, its parts in order, the extra
 // search, and the answer in lent bytes or in lent records.
+#![tactic(auto)]
+
 pub mod candidates;
 pub mod extend;
 pub mod extra;

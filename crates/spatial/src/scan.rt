@@ -13,7 +13,7 @@ use ground::bound::{least, most};
 
 // The block's side along the line, how far neighbours are looked at, how many rows of neighbours the
 // search may look at from here on, and the least that a neighbour counts for.
-#[derive(Drop)]
+#[derive(Clone, Copy)]
 pub struct Span {
     pub size: Pos4,
     pub limit: Pos4,
@@ -26,14 +26,14 @@ const SHORT: usize = 2;
 
 // answer is 0, or a refusal, and then nothing is meant by reach, nor by what was found. reach is how many rows of
 // neighbours the scan stands for.
-#[derive(Drop)]
+#[derive(Clone, Copy)]
 pub struct Scan {
     pub answer: u8,
     pub reach: usize,
 }
 
 // A later neighbour and what it counts for.
-#[derive(Drop)]
+#[derive(Clone, Copy)]
 pub enum Next {
     Take(Neighbour, Pos4),
     Refused(u8),

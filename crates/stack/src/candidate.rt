@@ -2,7 +2,7 @@
 use cells::block::MvPair;
 
 // A single search has ZERO for each second vector.
-#[derive(Drop)]
+#[derive(Clone, Copy)]
 pub struct Candidate {
     pub mv: MvPair,
     pub weight: u32,

@@ -10,7 +10,7 @@ use cells::block::MvPair;
 use vector::mv::Mv;
 
 // How far a vector may point, in eighths of a sample: up, down, to the left and to the right.
-#[derive(Drop)]
+#[derive(Clone, Copy)]
 pub struct Reach {
     pub up: u32,
     pub down: u32,
@@ -19,7 +19,7 @@ pub struct Reach {
 }
 
 // The least and the most that a component may be, of y and of x.
-#[derive(Drop)]
+#[derive(Clone, Copy)]
 struct Bounds {
     up: i16,
     down: i16,

@@ -16,7 +16,7 @@ pub const NUMBERS: usize = 20;
 const COUNT: usize = 16;
 
 // That a matching neighbour's mode has a new vector; that a neighbour above matched; one to the left.
-#[derive(Drop)]
+#[derive(Clone, Copy)]
 pub enum Flag {
     NewMv,
     Above,

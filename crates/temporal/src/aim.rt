@@ -18,7 +18,7 @@ use vector::projection::mv_projection;
 
 // How far the wanted references lie from the current frame, at which precision vectors are kept,
 // and the global vector of the first reference. A single search has no second one.
-#[derive(Drop)]
+#[derive(Clone, Copy)]
 pub struct Aim {
     pub compound: bool,
     pub first: i16,
@@ -28,7 +28,7 @@ pub struct Aim {
     pub gmv: Mv,
 }
 
-#[derive(Drop)]
+#[derive(Clone, Copy)]
 pub enum CellRead {
     Of(Cell),
     Absent,

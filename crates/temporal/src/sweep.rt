@@ -18,7 +18,7 @@ use stack::add::add_bits;
 
 // The projection as a block's search sees it: the number of the block's own first cell, the cells of
 // a row, and how many are listed.
-#[derive(Drop)]
+#[derive(Clone, Copy)]
 pub struct Field {
     pub first: usize,
     pub stride: Pos8,

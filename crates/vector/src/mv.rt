@@ -7,7 +7,7 @@ use ground::read::u32_at;
 use ground::twos::{half_bits, signed_half, write_half};
 
 // In eighths of a sample, down and to the right.
-#[derive(Drop)]
+#[derive(Clone, Copy)]
 pub struct Mv {
     pub y: i16,
     pub x: i16,

@@ -52,7 +52,7 @@ pub(crate) const FILE: usize = 16;
 pub(crate) const FIELD: usize = 17;
 
 // Where a part stands.
-#[derive(Drop)]
+#[derive(Clone, Copy)]
 struct Span {
     at: usize,
     end: usize,

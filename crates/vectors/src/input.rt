@@ -16,7 +16,7 @@ const LAST_DIGIT: u8 = 57;
 const MOST_TENTH: usize = 1844674407370955160;
 
 // How many numbers a line has, and the place behind it.
-#[derive(Drop)]
+#[derive(Clone, Copy)]
 pub(crate) struct Line {
     pub(crate) count: usize,
     pub(crate) behind: usize,

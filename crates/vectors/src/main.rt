@@ -1,6 +1,8 @@
 // Replays a list of calls of the exported functions: standard input says what is lent and what is
 // called, and what is printed has to be the list's answers (rust/vectors writes both files,
 // rust/README.md has their layout).
+#![tactic(auto)]
+
 mod batch;
 mod calls;
 mod changes;

@@ -22,7 +22,7 @@ use order::play::play;
 
 // The answer is 0 or a refusal; the batch has the steps done. stride is the frame's, for finding a
 // cell's row and column, and 0 where the capture is refused.
-#[derive(Drop)]
+#[derive(Clone, Copy)]
 pub struct Played {
     pub answer: u8,
     pub stride: Pos8,

@@ -13,7 +13,7 @@ pub const MOST_THREADS: usize = 255;
 
 // stride is the length of a row of cells in the saved field and in the projection; a row of records
 // has twice as many. n_blocks is the length of one row in all parts of the projection.
-#[derive(Drop)]
+#[derive(Clone, Copy)]
 pub struct Sizes {
     pub width: usize,
     pub height: usize,

@@ -6,7 +6,7 @@ use crate::extent::sizes::limited;
 
 // References are counted from 0, which is LAST, to 6, which is ALTREF. hints_by_ref holds, from 7 * i
 // on, the hints that reference i's own frame held for its references.
-#[derive(Drop)]
+#[derive(Clone, Copy)]
 pub struct Description {
     pub width: usize,
     pub height: usize,

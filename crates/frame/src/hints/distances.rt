@@ -11,7 +11,7 @@ use vector::hint::get_poc_diff;
 
 // sign_bias is 1 where the reference comes after the current frame, mfmv_sign where it comes before.
 // pocdiff is the distance from the reference to the current frame, held to 31 either way.
-#[derive(Drop)]
+#[derive(Clone, Copy)]
 pub struct RefHint {
     pub sign_bias: u8,
     pub mfmv_sign: u8,

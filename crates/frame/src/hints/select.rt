@@ -19,7 +19,7 @@ pub(crate) const ALTREF2: u8 = 5;
 pub const ALTREF: u8 = 6;
 
 // The first n of refs are selected, the others are 0.
-#[derive(Drop)]
+#[derive(Clone, Copy)]
 pub struct Selection {
     pub n: usize,
     pub refs: [u8; 3],

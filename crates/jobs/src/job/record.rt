@@ -14,7 +14,7 @@ use rows::setup::is_pass;
 
 // kind is 0 for a load and 1 for a save. A load has no use for sby and pass; its pass is judged all
 // the same. done is how many of its steps are done.
-#[derive(Drop)]
+#[derive(Clone, Copy)]
 pub struct Job {
     pub kind: u8,
     pub area: Area,
@@ -24,14 +24,14 @@ pub struct Job {
 }
 
 // The first n of eight jobs, in list order.
-#[derive(Drop)]
+#[derive(Clone, Copy)]
 pub struct Batch {
     pub n: usize,
     pub jobs: [Job; 8],
 }
 
 // How long the lent buffers are, in bytes: the fields are those of the references that a load uses.
-#[derive(Drop)]
+#[derive(Clone, Copy)]
 pub struct Lengths {
     pub fields: [usize; 3],
     pub recs: usize,

@@ -14,7 +14,7 @@ use vector::projection::mv_projection;
 
 // A reference as its cells are projected: its distance to the current frame, those to its own
 // references (0: none), and whether its cells move against their offsets.
-#[derive(Drop)]
+#[derive(Clone, Copy)]
 pub struct Motion {
     pub cur: i16,
     pub apart: [u8; 7],
@@ -22,7 +22,7 @@ pub struct Motion {
 }
 
 // How far a cell's vector moves its row and its column.
-#[derive(Drop)]
+#[derive(Clone, Copy)]
 pub struct Shift {
     pub y: usize,
     pub x: usize,

@@ -8,7 +8,7 @@ use crate::loading::used::Uses;
 use frame::hints::description::all_under;
 
 // How each of the seven fields is lent: 0 where it isn't, else 1.
-#[derive(Drop)]
+#[derive(Clone, Copy)]
 pub struct Lent {
     pub form: [u8; 7],
 }

@@ -11,14 +11,14 @@ use ground::bound::least;
 const PLACES: usize = 3;
 
 // The number of its field, and how its cells move.
-#[derive(Drop)]
+#[derive(Clone, Copy)]
 pub struct Used {
     pub field: usize,
     pub motion: Motion,
 }
 
 // The first n of at are used.
-#[derive(Drop)]
+#[derive(Clone, Copy)]
 pub struct Uses {
     pub n: usize,
     pub at: [Used; 3],

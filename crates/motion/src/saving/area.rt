@@ -9,7 +9,7 @@ use ground::bound::least;
 use rows::setup::in_frame;
 
 // Columns left..right and rows top..bottom of a tile row, as asked for: not yet cut to the frame.
-#[derive(Drop)]
+#[derive(Clone, Copy)]
 pub struct Area {
     pub tile: usize,
     pub left: Pos8,
@@ -20,7 +20,7 @@ pub struct Area {
 
 // What a save walks: columns left..end and rows top..bottom, cut to the frame. A block may reach up
 // to limit.
-#[derive(Drop)]
+#[derive(Clone, Copy)]
 pub struct Strip {
     pub left: Pos8,
     pub end: Pos8,
@@ -32,7 +32,7 @@ pub struct Strip {
 
 // What a load writes: columns left..right, rows top..bottom cut to the frame. The rows, modulo 16,
 // lie in the tile row's part of the projection, which starts at cell part.
-#[derive(Drop)]
+#[derive(Clone, Copy)]
 pub struct Window {
     pub left: Pos8,
     pub right: Pos8,

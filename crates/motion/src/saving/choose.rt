@@ -69,7 +69,7 @@ fn cells_wide(code: u8) -> usize
 
 // A size code, and the width of its blocks in cells. The code is as wide as the other field: a
 // struct with a gap in it would go through memory for each block.
-#[derive(Drop)]
+#[derive(Clone, Copy)]
 pub struct Width {
     pub code: usize,
     pub cells: usize,

@@ -12,7 +12,7 @@ use jobs::step::Answer;
 use motion::loading::fields::Lent;
 
 // A step's answer, and its batch afterwards.
-#[derive(Drop)]
+#[derive(Clone, Copy)]
 pub struct Turned {
     pub answer: Answer,
     pub batch: Batch,

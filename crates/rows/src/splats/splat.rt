@@ -15,7 +15,7 @@ use frame::extent::sizes::{Sizes, one_to};
 
 // A record and the place that it is laid over: y and x of the block's first record, its width and
 // height.
-#[derive(Drop)]
+#[derive(Clone, Copy)]
 pub struct Splat {
     pub block: Block,
     pub y: Pos4,

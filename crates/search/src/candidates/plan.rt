@@ -18,7 +18,7 @@ use stack::numbers::{NUMBERS, candidate_in, count_in};
 use vector::mv::Mv;
 
 // A refusal number, or how many candidates there are, and their context.
-#[derive(Drop)]
+#[derive(Clone, Copy)]
 pub enum SearchAnswer {
     Refused(u8),
     Found(u8, u8),
@@ -26,7 +26,7 @@ pub enum SearchAnswer {
 
 // The candidates in eight records, zero ones behind them; whether second vectors count; the vector that a
 // single search has in the slots below two that no candidate takes.
-#[derive(Drop)]
+#[derive(Clone, Copy)]
 pub struct Listing {
     pub stack: [Candidate; 8],
     pub count: usize,
@@ -35,7 +35,7 @@ pub struct Listing {
 }
 
 // n records are stored to: eight, or none where the search is refused.
-#[derive(Drop)]
+#[derive(Clone, Copy)]
 pub struct Plan {
     pub n: usize,
     pub found: Listing,

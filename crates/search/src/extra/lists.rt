@@ -12,7 +12,7 @@ use stack::add::add_new;
 use vector::mv::Mv;
 
 // One of a neighbour's two lists.
-#[derive(Drop)]
+#[derive(Clone, Copy)]
 pub struct Listed {
     pub reference: Ref,
     pub mv: Mv,

@@ -16,7 +16,7 @@ use stack::numbers::count_in;
 use vector::mv::Mv;
 
 // The first n of a and b.
-#[derive(Drop)]
+#[derive(Clone, Copy)]
 pub struct Two {
     pub n: usize,
     pub a: Mv,
@@ -24,13 +24,13 @@ pub struct Two {
 }
 
 // same: of the pool's own reference; other: of another, turned.
-#[derive(Drop)]
+#[derive(Clone, Copy)]
 pub struct Pool {
     pub same: Two,
     pub other: Two,
 }
 
-#[derive(Drop)]
+#[derive(Clone, Copy)]
 pub struct Pools {
     pub first: Pool,
     pub second: Pool,

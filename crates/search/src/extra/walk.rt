@@ -17,7 +17,7 @@ use spatial::neighbours::read::{Line, NeighbourRead, neighbour_at};
 use stack::numbers::count_in;
 
 // answer is 0, or a refusal, and then nothing is meant by pools.
-#[derive(Drop)]
+#[derive(Clone, Copy)]
 pub struct Pooled {
     pub pools: Pools,
     pub answer: u8,

@@ -21,7 +21,7 @@ use vector::mv::Mv;
 // The references, the block's size code, whether the point above right is decoded, the block's first
 // row and column, the references' global vectors with whether their types are above translation,
 // and the precision of vectors.
-#[derive(Drop)]
+#[derive(Clone, Copy)]
 pub struct Ask {
     pub refs: RefPair,
     pub bs: u8,

@@ -16,7 +16,7 @@ use stack::numbers::clear;
 
 // above and left are how many lines of neighbours the scans of either side stand for. answer is 0, or
 // a refusal, and then nothing is meant by the others, nor by what was found.
-#[derive(Drop)]
+#[derive(Clone, Copy)]
 pub struct Around {
     pub answer: u8,
     pub above: usize,

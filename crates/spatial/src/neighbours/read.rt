@@ -10,19 +10,19 @@ use cells::size::{Sized, dimensions};
 use layout::tile_bytes::entry_in;
 use rows::table::Place;
 
-#[derive(Drop)]
+#[derive(Clone, Copy)]
 pub struct Neighbour {
     pub block: Block,
 }
 
-#[derive(Drop)]
+#[derive(Clone, Copy)]
 pub enum NeighbourRead {
     Of(Neighbour),
     Refused(u8),
 }
 
 // From a column of an entry's row on, to the right, or down through the entries that follow.
-#[derive(Drop)]
+#[derive(Clone, Copy)]
 pub struct Line {
     pub entry: usize,
     pub col: Pos4,

@@ -8,13 +8,13 @@ use vector::mv::Mv;
 
 // The references, the second of them NONE in a single search; and for each the global vector that
 // takes the place of a neighbour's own, INVALID where there is none.
-#[derive(Drop)]
+#[derive(Clone, Copy)]
 pub struct Want {
     pub refs: RefPair,
     pub gmv: MvPair,
 }
 
-#[derive(Drop)]
+#[derive(Clone, Copy)]
 pub enum Offer {
     Nothing,
     Pair(MvPair),

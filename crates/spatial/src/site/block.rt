@@ -9,7 +9,7 @@ use ground::bound::least;
 use rows::setup::TileRange;
 
 // Its first row and column, its width and height, and the tile's columns and rows.
-#[derive(Drop)]
+#[derive(Clone, Copy)]
 pub struct Site {
     pub y: Pos4,
     pub x: Pos4,
