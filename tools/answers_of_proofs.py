@@ -60,9 +60,9 @@ class Places:
 
     def find(self, place, field):
         """The new name of the old step `field`, from `place` upwards."""
-        f = flat(field)
+        f = {flat(field), re.sub(r"-(\d+)$", r"\1", flat(field))}
         while place is not None:
-            if self.step.get(place, ("", ""))[0] == f:
+            if self.step.get(place, ("", ""))[0] in f:
                 return self.step[place][1]
             place = self.parent.get(place)
         return None
@@ -101,7 +101,8 @@ def rewrite(body, env, places, left, goal=None, named=None):
                 new = (whole(base, place) if place != env[base] else base) if goal else body[m.start(): m.end()]
                 new = new or var
         else:
-            step = places.find(place, field)
+            # Today there are fewer steps between: then the name alone says which one is meant.
+            step = places.find(place, field) or places.find(env[var], field)
             if step is None and field not in ("args", "requires", "ranges", "well_formed", "lifetimes", "type_inv"):
                 left.append(f"{var}{m.group(2)}.{field} at {place}")
             new = f"{var}.{step or field}"
