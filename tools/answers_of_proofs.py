@@ -68,6 +68,14 @@ class Places:
         return None
 
 
+    def arm(self, place, step):
+        """The arm that told the fact which the step `step`, as it is called today, stood for."""
+        while place is not None and self.step[place][1] != step:
+            place = self.parent.get(place)
+        above = self.parent.get(place) if place else None
+        return self.step[above][1] if above and self.step[above][0] == "match" else None
+
+
 def rewrite(body, env, places, left, goal=None, named=None):
     """Rewrites chains `x.before.before.step` where x is known to stand at a place."""
     env = dict(env)
@@ -106,6 +114,12 @@ def rewrite(body, env, places, left, goal=None, named=None):
             if step is None and field not in ("args", "requires", "ranges", "well_formed", "lifetimes", "type_inv"):
                 left.append(f"{var}{m.group(2)}.{field} at {place}")
             new = f"{var}.{step or field}"
+            arm = places.arm(env[var], step)
+            if arm and rest.startswith(".given.1"):
+                new = f"{var}.{arm}.is"
+                out.append(body[at: m.start()] + new)
+                at = m.end() + len(".given.1")
+                continue
         out.append(body[at: m.start()] + new)
         at = m.end()
     out.append(body[at:])
