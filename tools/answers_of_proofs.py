@@ -62,12 +62,20 @@ class Places:
 
     def find(self, place, field):
         """The new name of the old step `field`, from `place` upwards."""
-        f = flat(field)
+        f = {flat(field), re.sub(r"-(\d+)$", r"\1", flat(field))}
         while place is not None:
-            if self.step.get(place, ("", ""))[0] == f:
+            if self.step.get(place, ("", ""))[0] in f:
                 return self.step[place][1]
             place = self.parent.get(place)
         return None
+
+
+    def arm(self, place, step):
+        """The arm that told the fact which the step `step`, as it is called today, stood for."""
+        while place is not None and self.step[place][1] != step:
+            place = self.parent.get(place)
+        above = self.parent.get(place) if place else None
+        return self.step[above][1] if above and self.step[above][0] == "match" else None
 
 
 def rewrite(body, env, places, left, goal=None, named=None):
@@ -103,11 +111,17 @@ def rewrite(body, env, places, left, goal=None, named=None):
                 new = (whole(base, place) if place != env[base] else base) if goal else body[m.start(): m.end()]
                 new = new or var
         else:
-            # The code between is other steps now, so the step is looked for from the goal too.
+            # Today there are fewer steps between: then the name alone says which one is meant.
             step = places.find(place, field) or places.find(env[var], field) or places.find(env[next(iter(env))], field)
             if step is None and field not in ("args", "requires", "ranges", "well_formed", "lifetimes", "type_inv"):
                 left.append(f"{var}{m.group(2)}.{field} at {place}")
             new = f"{var}.{step or field}"
+            arm = places.arm(env[var], step)
+            if arm and rest.startswith(".given.1"):
+                new = f"{var}.{arm}.is"
+                out.append(body[at: m.start()] + new)
+                at = m.end() + len(".given.1")
+                continue
         out.append(body[at: m.start()] + new)
         at = m.end()
     out.append(body[at:])
