@@ -62,7 +62,7 @@ class Places:
 
     def find(self, place, field):
         """The new name of the old step `field`, from `place` upwards."""
-        f = {flat(field), re.sub(r"-(\d+)$", r"\1", flat(field))}
+        f = {flat(field), re.sub(r"-(\d+)$", r"\1", flat(field)), flat(field.removesuffix("_lem"))}
         while place is not None:
             if self.step.get(place, ("", ""))[0] in f:
                 return self.step[place][1]
@@ -189,10 +189,10 @@ def ends(body, places, root):
         if callee is None:
             return m.group(0)
         params = ["".join(p) for p in lent(root, callee)]
-        k = m.group(2).count(".1")
-        return f"{m.group(1)}.new.{params[k]}" if k < len(params) else m.group(0)
+        k = m.group(3).count(".1")
+        return f"{m.group(1)}.{m.group(2)}.{params[k]}" if k < len(params) else m.group(0)
 
-    return re.sub(r"(?<![\w′'-])([A-Za-z][\w′₀-₉'-]*)\.new((?:\.1)*)\.0\b", one, body)
+    return re.sub(r"(?<![\w′'-])([A-Za-z][\w′₀-₉'-]*)\.(new|auto)((?:\.1)*)\.0\b", one, body)
 
 
 def used(imports, text):
