@@ -38,8 +38,7 @@ fn write_down(jobs: &mut [u8], k: usize, number: u8, done: usize)
 }
 
 // Whether the jobs may be stepped, in any order. The answer is 0 or a refusal; nothing is written.
-#[unsafe(no_mangle)]
-pub extern "C" fn jaskkovir_admit<'a>(
+pub fn jaskkovir_admit<'a>(
     frame: &[u8],
     present: &[u8],
     jobs: &[u8],
@@ -81,8 +80,7 @@ pub extern "C" fn jaskkovir_admit<'a>(
 
 // Steps job k by one row of work. The answer is 0 where it is counted, DONE where nothing is left to
 // do, or a refusal; but for 0 nothing is written.
-#[unsafe(no_mangle)]
-pub extern "C" fn jaskkovir_step<'a>(
+pub fn jaskkovir_step<'a>(
     frame: &[u8],
     present: &[u8],
     jobs: &mut [u8],

@@ -37,8 +37,7 @@ fn put_steps(s: &mut [u8], batch: Batch)
 
 // Plays a capture's jobs in list order over proj and saved, which are blank first. The answer is 0,
 // and each job's steps are laid over the start of steps, or a refusal, and then nothing is written.
-#[unsafe(no_mangle)]
-pub extern "C" fn jaskkovir_play(
+pub fn jaskkovir_play(
     file: &[u8],
     proj: &mut [u8],
     saved: &mut [u8],

@@ -59,8 +59,7 @@ fn set_up(d: Description, hints: &[u8], held: &[u8], present: [u8; 7], frame: &m
 
 // The answer is 0, and the record is laid over the start of frame, or a refusal, and then nothing is
 // written: a caller can keep what it had.
-#[unsafe(no_mangle)]
-pub extern "C" fn jaskkovir_init_frame(
+pub fn jaskkovir_init_frame(
     width: usize,
     height: usize,
     sb128: u8,
@@ -121,8 +120,7 @@ fn check(frame: &[u8]) -> u8
     if well_frame(frame) { 0 } else { 1 }
 }
 
-#[unsafe(no_mangle)]
-pub extern "C" fn jaskkovir_check(frame: &[u8]) -> u8
+pub fn jaskkovir_check(frame: &[u8]) -> u8
     ensures { result ≡ checked frame.now }
 {
     if frame.len() < FRAME {
@@ -151,8 +149,7 @@ fn listed_lacks(frame: usize, sizes: usize) -> bool
 }
 
 // How much a caller has to lend: cells of a saved field, cells of the projection, records.
-#[unsafe(no_mangle)]
-pub extern "C" fn jaskkovir_listed_sizes(frame: &[u8], sizes: &mut [u8]) -> u8
+pub fn jaskkovir_listed_sizes(frame: &[u8], sizes: &mut [u8]) -> u8
     ensures value { result ≡ listed_answer frame.now (length sizes.old) }
     ensures sizes_after { sizes.new ≡ run (listed_script frame.now (length sizes.old)) sizes.old }
 {

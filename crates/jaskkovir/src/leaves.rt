@@ -12,24 +12,21 @@ use vector::mv::Mv;
 use vector::precision::fix_mv_precision;
 use vector::projection::mv_projection;
 
-#[unsafe(no_mangle)]
-pub extern "C" fn jaskkovir_mv_projection(y: i16, x: i16, num: i16, den: u32) -> u32
+pub fn jaskkovir_mv_projection(y: i16, x: i16, num: i16, den: u32) -> u32
     requires { Within 4095 (mv y x) × (nat_abs num ≤ 31) × (0 < den) × (den < 32) }
     ensures { result ≡ mv_bits (both (projected num den) (mv y x)) }
 {
     mv_projection(Mv { y, x }, num, den).bits()
 }
 
-#[unsafe(no_mangle)]
-pub extern "C" fn jaskkovir_fix_mv_precision(y: i16, x: i16, integer: bool, hp: bool) -> u32
+pub fn jaskkovir_fix_mv_precision(y: i16, x: i16, integer: bool, hp: bool) -> u32
     requires { Within 16384 (mv y x) }
     ensures { result ≡ mv_bits (both (lowered integer hp) (mv y x)) }
 {
     fix_mv_precision(Mv { y, x }, integer, hp).bits()
 }
 
-#[unsafe(no_mangle)]
-pub extern "C" fn jaskkovir_get_poc_diff(bits: u32, a: u32, b: u32) -> i16
+pub fn jaskkovir_get_poc_diff(bits: u32, a: u32, b: u32) -> i16
     requires { (bits ≤ 8) × (a < 2 ^ bits) × (b < 2 ^ bits) }
     ensures { result ≡ distance bits a b }
 {

@@ -28,8 +28,7 @@ pub(crate) fn area_of(tile: usize, left: usize, right: usize, top: usize, bottom
 
 // Saves the records of the area's rows of cells to a field. The answer is 0, or a refusal, and then
 // nothing is written.
-#[unsafe(no_mangle)]
-pub extern "C" fn jaskkovir_save_tmvs(
+pub fn jaskkovir_save_tmvs(
     frame: &[u8],
     tile_row: usize,
     left: usize,
@@ -71,8 +70,7 @@ pub(crate) fn load_lacks(frame: usize, present: usize) -> bool
 
 // Loads the motion of the area's rows of cells into the projection, from the fields that present
 // says are lent. The answer is 0, or a refusal, and then nothing is written.
-#[unsafe(no_mangle)]
-pub extern "C" fn jaskkovir_load_tmvs<'a>(
+pub fn jaskkovir_load_tmvs<'a>(
     frame: &[u8],
     tile_row: usize,
     left: usize,

@@ -34,8 +34,7 @@ fn find_lacks(frame: usize, tile: usize, ask: usize, stack: usize, found: usize)
 
 // Finds the candidates of a block. The answer is 0, and the stack and the two numbers are laid, or a
 // refusal, and then nothing is written.
-#[unsafe(no_mangle)]
-pub extern "C" fn jaskkovir_find(
+pub fn jaskkovir_find(
     frame: &[u8],
     tile: &[u8],
     records: &[u8],

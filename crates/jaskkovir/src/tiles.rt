@@ -49,8 +49,7 @@ fn set_row(frame: &[u8], r: SbRow, tile: &mut [u8]) -> u8
 
 // The answer is 0, and the tile is laid over the start of the part lent for it, or a refusal, and
 // then nothing is written.
-#[unsafe(no_mangle)]
-pub extern "C" fn jaskkovir_tile_sbrow_init(
+pub fn jaskkovir_tile_sbrow_init(
     frame: &[u8],
     col_start: usize,
     col_end: usize,
@@ -117,8 +116,7 @@ fn splat_of(block: &[u8], y: usize, x: usize, w: usize, h: usize) -> Splat
 
 // Lays the record over every place that the block covers. The answer is 0, or a refusal, and then
 // nothing is written.
-#[unsafe(no_mangle)]
-pub extern "C" fn jaskkovir_splat_mv(
+pub fn jaskkovir_splat_mv(
     frame: &[u8],
     tile: &[u8],
     block: &[u8],

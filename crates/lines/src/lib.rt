@@ -1,4 +1,5 @@
-// What programs share that print text: lines of words and decimal numbers.
+// What programs share: lines of words and decimal numbers, and reading to the end of the input.
 #![tactic(auto)]
 
 pub mod print;
+pub mod read;

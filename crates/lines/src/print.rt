@@ -1,50 +1,49 @@
 // Lines of words and decimal numbers on standard output. A line is a start, any words and numbers,
 // an end.
 use ground::sign::{magnitude, negative};
-use libc::STDOUT_FILENO;
+use std::io;
 
 // A number that a line starts with: a kind or an answer, and these are bytes.
-pub fn start(n: u8) {
-    io::print_decimal(STDOUT_FILENO, n as u64);
+pub fn start(rt: &impl Print, n: u8) -> io::Result<()> {
+    print!(rt; "{n}")
 }
 
 // A word that a line starts with.
-pub fn word(w: &[u8]) {
-    io::write_all(STDOUT_FILENO, w);
+pub fn word(rt: &impl Print, w: &[u8]) -> io::Result<()> {
+    rt.write_all(w)
 }
 
 // A word behind what stands before it.
-pub fn next_word(w: &[u8]) {
-    io::write_all(STDOUT_FILENO, b" ");
-    io::write_all(STDOUT_FILENO, w);
+pub fn next_word(rt: &impl Print, w: &[u8]) -> io::Result<()> {
+    rt.write_all(b" ")?;
+    rt.write_all(w)
 }
 
 // A number behind those before it.
-pub fn number(n: u64) {
-    io::write_all(STDOUT_FILENO, b" ");
-    io::print_decimal(STDOUT_FILENO, n);
+pub fn number(rt: &impl Print, n: u64) -> io::Result<()> {
+    print!(rt; " {n}")
 }
 
-pub fn signed(c: i16) {
-    io::write_all(STDOUT_FILENO, b" ");
+pub fn signed(rt: &impl Print, c: i16) -> io::Result<()> {
+    let m = magnitude(c);
     if negative(c) {
-        io::write_all(STDOUT_FILENO, b"-");
+        return print!(rt; " -{m}");
     }
-    io::print_decimal(STDOUT_FILENO, magnitude(c) as u64);
+    print!(rt; " {m}")
 }
 
 // A motion cell's numbers: the vector's y and x, and the reference or distance.
-pub fn motion(y: i16, x: i16, reference: i8) {
-    signed(y);
-    signed(x);
-    signed(reference as i16);
+pub fn motion(rt: &impl Print, y: i16, x: i16, reference: i8) -> io::Result<()> {
+    signed(rt, y)?;
+    signed(rt, x)?;
+    signed(rt, reference as i16)
 }
 
 // What stands for a number that isn't there.
-pub fn absent() {
-    io::write_all(STDOUT_FILENO, b" -");
+pub fn absent(rt: &impl Print) -> io::Result<()> {
+    rt.write_all(b" -")
 }
 
-pub fn end() {
-    io::write_all(STDOUT_FILENO, b"\n");
+pub fn end(rt: &impl Print) -> io::Result<()> {
+    rt.write_all(b"\n")
 }

@@ -11,6 +11,7 @@ use jaskkovir::frames::{jaskkovir_check, jaskkovir_init_frame, jaskkovir_listed_
 use jaskkovir::motions::{jaskkovir_load_tmvs, jaskkovir_save_tmvs};
 use jaskkovir::tiles::{jaskkovir_splat_mv, jaskkovir_tile_sbrow_init};
 use lines::print;
+use std::io;
 
 // The part that a call writes.
 fn written_by(function: usize) -> usize {
@@ -138,27 +139,34 @@ fn answer(desk: &[u8], line: &[usize], to: &mut [u8]) -> u8 {
 }
 
 // What a call answered, and its number before it.
-pub(crate) fn show_answer(line: &[usize], answer: u8) {
-    print::start(byte(nth(line, 0)));
-    print::number(answer as u64);
-    print::end();
+pub(crate) fn show_answer(rt: &impl Print, line: &[usize], answer: u8) -> io::Result<()> {
+    print::start(rt, byte(nth(line, 0)))?;
+    print::number(rt, answer as u64)?;
+    print::end(rt)
 }
 
 // What a call changed in a part, which is put back.
-pub(crate) fn tell(desk: &mut [u8], role: usize, after: &[u8]) {
-    show(role, part(desk, role), after);
+pub(crate) fn tell(rt: &impl Print, desk: &mut [u8], role: usize, after: &[u8]) -> io::Result<()> {
+    show(rt, role, part(desk, role), after)?;
     put_back(desk, role, after);
+    Ok(())
 }
 
-fn call_on(desk: &mut [u8], line: &[usize], role: usize, to: &mut [u8]) {
-    show_answer(line, answer(desk, line, to));
-    tell(desk, role, to);
+fn call_on(
+    rt: &impl Print,
+    desk: &mut [u8],
+    line: &[usize],
+    role: usize,
+    to: &mut [u8],
+) -> io::Result<()> {
+    show_answer(rt, line, answer(desk, line, to))?;
+    tell(rt, desk, role, to)
 }
 
 // A call that writes one part at most.
-pub(crate) fn call(desk: &mut [u8], line: &[usize]) {
+pub(crate) fn call(rt: &impl Print, desk: &mut [u8], line: &[usize]) -> io::Result<()> {
     let mut space = [0u8; ROOM];
     let role = written_by(nth(line, 0));
     let to = copy_of(&mut space, desk, role);
-    call_on(desk, line, role, to);
+    call_on(rt, desk, line, role, to)
 }

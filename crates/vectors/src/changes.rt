@@ -1,9 +1,10 @@
 // What a call changed in a part, told as runs of units that changed alike: a line for each, with the
 // part's role, the first byte's place, how many units there are, and what one's bytes became.
-ghost use Rattle.std.specs.Prelude.{◌+◌, ◌<◌, ◌≤◌, length};
+ghost use Rattle.std.specs.Prelude.{◌+◌, ◌<◌, ◌≤◌, IfOk, length};
 
 use crate::desk::{JOBS, PROJ, RECORDS, SAVED};
 use lines::print;
+use std::io;
 
 // Stands for a byte that stayed.
 const SAME: usize = 256;
@@ -89,49 +90,66 @@ fn run_end(before: &[u8], after: &[u8], end: usize, unit: usize) -> usize
     i
 }
 
-fn show_byte(change: usize) {
+fn show_byte(rt: &impl Print, change: usize) -> io::Result<()> {
     if change == SAME {
-        print::absent();
+        print::absent(rt)
     } else {
-        print::number(change as u64);
+        print::number(rt, change as u64)
     }
 }
 
-fn show_bytes(before: &[u8], after: &[u8], at: usize, end: usize)
+fn show_bytes(rt: &impl Print, before: &[u8], after: &[u8], at: usize, end: usize) -> io::Result<()>
     requires { (at ≤ end) × (end ≤ length after.now) }
 {
     for i in at..end {
-        show_byte(change_at(before, after, i));
+        show_byte(rt, change_at(before, after, i))?;
     }
+    Ok(())
 }
 
-fn show_run(role: usize, before: &[u8], after: &[u8], at: usize, end: usize, count: usize)
+fn show_run(
+    rt: &impl Print,
+    role: usize,
+    before: &[u8],
+    after: &[u8],
+    at: usize,
+    end: usize,
+    count: usize,
+) -> io::Result<()>
     requires { (at ≤ end) × (end ≤ length after.now) }
 {
     if is_changed(before, after, at, end) {
-        print::number(role as u64);
-        print::number(at as u64);
-        print::number(count as u64);
-        show_bytes(before, after, at, end);
-        print::end();
+        print::number(rt, role as u64)?;
+        print::number(rt, at as u64)?;
+        print::number(rt, count as u64)?;
+        show_bytes(rt, before, after, at, end)?;
+        print::end(rt)?;
     }
+    Ok(())
 }
 
 // The run that starts at a place; the place behind it.
-fn show_from(role: usize, before: &[u8], after: &[u8], at: usize) -> usize
+fn show_from(
+    rt: &impl Print,
+    role: usize,
+    before: &[u8],
+    after: &[u8],
+    at: usize,
+) -> io::Result<usize>
     requires { at < length after.now }
-    ensures { (at < result) × (result ≤ length after.now) }
+    ensures { IfOk result (λ r. (at < r) × (r ≤ length after.now)) }
 {
     let unit = unit_in(role, after.len() - at);
     let end = at + unit;
     let behind = run_end(before, after, end, unit);
-    show_run(role, before, after, at, end, (behind - at) / unit);
-    behind
+    show_run(rt, role, before, after, at, end, (behind - at) / unit)?;
+    Ok(behind)
 }
 
-pub(crate) fn show(role: usize, before: &[u8], after: &[u8]) {
+pub(crate) fn show(rt: &impl Print, role: usize, before: &[u8], after: &[u8]) -> io::Result<()> {
     let mut at: usize = 0;
     while at < after.len() {
-        at = show_from(role, before, after, at);
+        at = show_from(rt, role, before, after, at)?;
     }
+    Ok(())
 }

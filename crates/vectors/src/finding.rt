@@ -3,6 +3,7 @@ use crate::calls::{show_answer, tell};
 use crate::desk::{ASK, FOUND, FRAME, PROJ, RECORDS, STACK, TILE, copy_of, part};
 use crate::records::compare;
 use jaskkovir::searches::jaskkovir_find;
+use std::io;
 
 // More than eight candidates have, or the count and the context.
 const SPACE: usize = 256;
@@ -19,22 +20,28 @@ fn answer(desk: &[u8], stack: &mut [u8], found: &mut [u8]) -> u8 {
     )
 }
 
-fn tell_both(desk: &mut [u8], stack: &[u8], found: &[u8]) {
-    tell(desk, STACK, stack);
-    tell(desk, FOUND, found);
+fn tell_both(rt: &impl Print, desk: &mut [u8], stack: &[u8], found: &[u8]) -> io::Result<()> {
+    tell(rt, desk, STACK, stack)?;
+    tell(rt, desk, FOUND, found)
 }
 
-fn find_on(desk: &mut [u8], line: &[usize], stack: &mut [u8], found: &mut [u8]) {
+fn find_on(
+    rt: &impl Print,
+    desk: &mut [u8],
+    line: &[usize],
+    stack: &mut [u8],
+    found: &mut [u8],
+) -> io::Result<()> {
     let number = answer(desk, stack, found);
-    show_answer(line, number);
-    compare(desk, number, stack, found);
-    tell_both(desk, stack, found);
+    show_answer(rt, line, number)?;
+    compare(rt, desk, number, stack, found)?;
+    tell_both(rt, desk, stack, found)
 }
 
-pub(crate) fn find(desk: &mut [u8], line: &[usize]) {
+pub(crate) fn find(rt: &impl Print, desk: &mut [u8], line: &[usize]) -> io::Result<()> {
     let mut for_stack = [0u8; SPACE];
     let mut for_found = [0u8; SPACE];
     let stack = copy_of(&mut for_stack, desk, STACK);
     let found = copy_of(&mut for_found, desk, FOUND);
-    find_on(desk, line, stack, found);
+    find_on(rt, desk, line, stack, found)
 }

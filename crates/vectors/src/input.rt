@@ -1,8 +1,10 @@
 // Standard input, where a list stands as text: lines of decimal numbers. Whatever is no digit stands
 // between numbers, and a minus right before one makes it negative.
-ghost use Rattle.std.specs.Prelude.{◌<◌, ◌≤◌, length};
+ghost use Rattle.std.specs.Prelude.{◌<◌, ◌≤◌, IfOk, length};
 
-use libc::STDIN_FILENO;
+use lines::read::read_full;
+use std::io;
+use std::io::Read;
 
 const LINE_END: u8 = 10;
 
@@ -154,10 +156,16 @@ fn keep_rest(text: &mut [u8], end: usize, n: usize) -> usize
 
 // Fills the text from standard input. Of its first n bytes those behind the end of what was taken
 // are kept, at the front; how many bytes there are then.
-pub(crate) fn refill(text: &mut [u8], end: usize, n: usize) -> usize
+pub(crate) fn refill(
+    input: &mut impl Read,
+    text: &mut [u8],
+    end: usize,
+    n: usize,
+) -> io::Result<usize>
     requires { (end ≤ n) × (n ≤ length text.old) }
-    ensures { result ≤ length text.old }
+    ensures { IfOk result (λ r. r ≤ length text.old) }
 {
     let kept = keep_rest(text, end, n);
-    kept + io::read_full(STDIN_FILENO, &mut text[kept..])
+    let more = read_full(input, &mut text[kept..])?;
+    Ok(kept + more)
 }

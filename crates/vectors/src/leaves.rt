@@ -7,24 +7,25 @@ use cells::cell::{Cell, Ref};
 use cells::size::{Sized, dimensions};
 use ground::sign::magnitude;
 use lines::print;
+use std::io;
 use vector::hint::get_poc_diff;
 use vector::mv::Mv;
 use vector::precision::fix_mv_precision;
 use vector::projection::mv_projection;
 
-pub(crate) fn leaf(desk: &[u8], n: &[usize]) {
+pub(crate) fn leaf(rt: &impl Print, desk: &[u8], n: &[usize]) -> io::Result<()> {
     let function = nth(n, 0);
-    print::start(byte(function));
+    print::start(rt, byte(function))?;
     match function {
-        30 => projection(vector_in(n), half(nth(n, 3)), word(nth(n, 4))),
-        31 => precision(vector_in(n), nth(n, 3) == 1, nth(n, 4) == 1),
-        32 => distance(word(nth(n, 1)), word(nth(n, 2)), word(nth(n, 3))),
-        33 => negation(vector_in(n)),
-        34 => cell(part(desk, BLOCK)),
-        35 => record(part(desk, BLOCK)),
+        30 => projection(rt, vector_in(n), half(nth(n, 3)), word(nth(n, 4)))?,
+        31 => precision(rt, vector_in(n), nth(n, 3) == 1, nth(n, 4) == 1)?,
+        32 => distance(rt, word(nth(n, 1)), word(nth(n, 2)), word(nth(n, 3)))?,
+        33 => negation(rt, vector_in(n))?,
+        34 => cell(rt, part(desk, BLOCK))?,
+        35 => record(rt, part(desk, BLOCK))?,
         _ => {}
     }
-    print::end();
+    print::end(rt)
 }
 
 fn vector_in(n: &[usize]) -> Mv {
@@ -34,81 +35,86 @@ fn vector_in(n: &[usize]) -> Mv {
     }
 }
 
-fn vector(v: Mv) {
-    print::signed(v.y);
-    print::signed(v.x);
+fn vector(rt: &impl Print, v: Mv) -> io::Result<()> {
+    print::signed(rt, v.y)?;
+    print::signed(rt, v.x)
 }
 
-fn reference(r: Ref) {
-    print::signed(r.0 as i16);
+fn reference(rt: &impl Print, r: Ref) -> io::Result<()> {
+    print::signed(rt, r.0 as i16)
 }
 
-fn projection(v: Mv, num: i16, den: u32) {
+fn projection(rt: &impl Print, v: Mv, num: i16, den: u32) -> io::Result<()> {
     if v.within(4095) {
         if magnitude(num) <= 31 {
             if 0 < den {
                 if den < 32 {
-                    vector(mv_projection(v, num, den));
+                    vector(rt, mv_projection(v, num, den))?;
                 }
             }
         }
     }
+    Ok(())
 }
 
-fn precision(v: Mv, integer: bool, hp: bool) {
+fn precision(rt: &impl Print, v: Mv, integer: bool, hp: bool) -> io::Result<()> {
     if v.within(16384) {
-        vector(fix_mv_precision(v, integer, hp));
+        vector(rt, fix_mv_precision(v, integer, hp))?;
     }
+    Ok(())
 }
 
-fn distance(bits: u32, a: u32, b: u32) {
+fn distance(rt: &impl Print, bits: u32, a: u32, b: u32) -> io::Result<()> {
     if bits <= 8 {
         let whole = 1u32 << bits;
         if a < whole {
             if b < whole {
-                print::signed(get_poc_diff(bits, a, b));
+                print::signed(rt, get_poc_diff(bits, a, b))?;
             }
         }
     }
+    Ok(())
 }
 
-fn negation(v: Mv) {
+fn negation(rt: &impl Print, v: Mv) -> io::Result<()> {
     if v.within(32767) {
-        vector(v.negated());
+        vector(rt, v.negated())?;
     }
+    Ok(())
 }
 
 // Whether the vector is INVALID comes last.
-fn cell(s: &[u8]) {
+fn cell(rt: &impl Print, s: &[u8]) -> io::Result<()> {
     if s.len() < 5 {
-        return;
+        return Ok(());
     }
     let c = Cell::read(s, 0);
-    vector(c.mv);
-    reference(c.reference);
-    print::number(c.projected_absent() as u64);
+    vector(rt, c.mv)?;
+    reference(rt, c.reference)?;
+    print::number(rt, c.projected_absent() as u64)
 }
 
-fn size(code: u8) {
+fn size(rt: &impl Print, code: u8) -> io::Result<()> {
     if let Sized::Of(d) = dimensions(code) {
-        print::number(d.w.0 as u64);
-        print::number(d.h.0 as u64);
+        print::number(rt, d.w.0 as u64)?;
+        print::number(rt, d.h.0 as u64)?;
     }
+    Ok(())
 }
 
 // Width and height of its size come last.
-fn record(s: &[u8]) {
+fn record(rt: &impl Print, s: &[u8]) -> io::Result<()> {
     if s.len() < 12 {
-        return;
+        return Ok(());
     }
     let b = Block::read(s, 0);
     let mv = b.mv;
     let refs = b.refs;
-    vector(mv.first);
-    vector(mv.second);
-    reference(refs.first);
-    reference(refs.second);
-    print::number(b.bs as u64);
-    print::number(b.mf as u64);
-    size(b.bs);
+    vector(rt, mv.first)?;
+    vector(rt, mv.second)?;
+    reference(rt, refs.first)?;
+    reference(rt, refs.second)?;
+    print::number(rt, b.bs as u64)?;
+    print::number(rt, b.mf as u64)?;
+    size(rt, b.bs)
 }

@@ -6,6 +6,7 @@ use crate::finding::find;
 use crate::lay::{lay, lend_part};
 use crate::leaves::leaf;
 use crate::numbers::nth;
+use std::io;
 
 // A part is laid by its length, by bytes, or as it is before a call that writes it.
 fn lay_out(desk: &mut [u8], line: &[usize]) {
@@ -18,31 +19,34 @@ fn lay_out(desk: &mut [u8], line: &[usize]) {
 }
 
 // An exported function is called, and what it writes is put back on the desk.
-fn call_exported(desk: &mut [u8], line: &[usize]) {
+fn call_exported(rt: &impl Print, desk: &mut [u8], line: &[usize]) -> io::Result<()> {
     let command = nth(line, 0);
     match command {
-        17 => find(desk, line),
-        19 => play_capture(desk, line),
-        _ => call(desk, line),
+        17 => find(rt, desk, line),
+        19 => play_capture(rt, desk, line),
+        _ => call(rt, desk, line),
     }
 }
 
 // What leaves the desk as it is: steps of a batch, and inner functions. Any other line does nothing: a
 // title, or a batch whose steps are to be taken in many orders, which is for rust/compare.
-fn look_at(desk: &[u8], line: &[usize]) {
+fn look_at(rt: &impl Print, desk: &[u8], line: &[usize]) -> io::Result<()> {
     let command = nth(line, 0);
     match command {
-        20 => take_steps(desk, line),
-        30..=35 => leaf(desk, line),
-        _ => {}
+        20 => take_steps(rt, desk, line),
+        30..=35 => leaf(rt, desk, line),
+        _ => Ok(()),
     }
 }
 
-pub(crate) fn obey(desk: &mut [u8], line: &[usize]) {
+pub(crate) fn obey(rt: &impl Print, desk: &mut [u8], line: &[usize]) -> io::Result<()> {
     let command = nth(line, 0);
     match command {
-        1..=3 => lay_out(desk, line),
-        10..=19 => call_exported(desk, line),
-        _ => look_at(desk, line),
+        1..=3 => {
+            lay_out(desk, line);
+            Ok(())
+        }
+        10..=19 => call_exported(rt, desk, line),
+        _ => look_at(rt, desk, line),
     }
 }

@@ -12,6 +12,7 @@ use search::candidates::plan::{SearchAnswer, planned};
 use search::front::ask::Ask;
 use search::lent_bytes::question::ask_at;
 use stack::candidate::Candidate;
+use std::io;
 use vector::mv::Mv;
 
 const SLOTS: usize = 8;
@@ -125,9 +126,16 @@ fn agree(desk: &[u8], answer: u8, stack: &[u8], found: &[u8]) -> bool {
 
 // In the answer, in count and context, and in every byte of the eight records, from those that were
 // lent. Where they don't agree a line says so, which is none of the list.
-pub(crate) fn compare(desk: &[u8], answer: u8, stack: &[u8], found: &[u8]) {
+pub(crate) fn compare(
+    rt: &impl Print,
+    desk: &[u8],
+    answer: u8,
+    stack: &[u8],
+    found: &[u8],
+) -> io::Result<()> {
     if !agree(desk, answer, stack, found) {
-        print::word(b"records differ");
-        print::end();
+        print::word(rt, b"records differ")?;
+        print::end(rt)?;
     }
+    Ok(())
 }

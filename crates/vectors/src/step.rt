@@ -3,6 +3,7 @@ use crate::desk::{FIELD, FRAME, PRESENT, RECORDS, part};
 use crate::numbers::nth;
 use jaskkovir::batches::jaskkovir_step;
 use lines::print;
+use std::io;
 
 // Where a line's steps start.
 const FIRST_STEP: usize = 2;
@@ -29,16 +30,18 @@ fn step(desk: &[u8], k: usize, jobs: &mut [u8], proj: &mut [u8], saved: &mut [u8
 
 // Takes the steps that the line names, behind its first two numbers, and prints what each answers.
 pub(crate) fn play(
+    rt: &impl Print,
     desk: &[u8],
     line: &[usize],
     jobs: &mut [u8],
     proj: &mut [u8],
     saved: &mut [u8],
-) {
+) -> io::Result<()> {
     let mut i = FIRST_STEP;
     while i < line.len() {
         let answer = step(desk, nth(line, i), jobs, proj, saved);
-        print::number(answer as u64);
+        print::number(rt, answer as u64)?;
         i += 1;
     }
+    Ok(())
 }
