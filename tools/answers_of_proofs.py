@@ -45,8 +45,10 @@ def decls(text):
 
 class Places:
     def __init__(self, of):
-        self.parent, self.step, self.new = {}, {}, {}
-        for (name, parent, step, _, extra), new in zip(of["places"], of["places_by_name"]):
+        self.parent, self.step, self.new, self.callee = {}, {}, {}, {}
+        for (name, parent, step, callee, extra), new in zip(of["places"], of["places_by_name"]):
+            if callee:
+                self.callee[step[1]] = callee
             self.parent[flat(name)] = flat(parent) if parent else None
             self.step[flat(name)] = (flat(step[0]), step[1])
             self.new[flat(name)] = new
@@ -60,12 +62,20 @@ class Places:
 
     def find(self, place, field):
         """The new name of the old step `field`, from `place` upwards."""
-        f = flat(field)
+        f = {flat(field), re.sub(r"-(\d+)$", r"\1", flat(field))}
         while place is not None:
-            if self.step.get(place, ("", ""))[0] == f:
+            if self.step.get(place, ("", ""))[0] in f:
                 return self.step[place][1]
             place = self.parent.get(place)
         return None
+
+
+    def arm(self, place, step):
+        """The arm that told the fact which the step `step`, as it is called today, stood for."""
+        while place is not None and self.step[place][1] != step:
+            place = self.parent.get(place)
+        above = self.parent.get(place) if place else None
+        return self.step[above][1] if above and self.step[above][0] == "match" else None
 
 
 def rewrite(body, env, places, left, goal=None, named=None):
@@ -101,10 +111,17 @@ def rewrite(body, env, places, left, goal=None, named=None):
                 new = (whole(base, place) if place != env[base] else base) if goal else body[m.start(): m.end()]
                 new = new or var
         else:
-            step = places.find(place, field)
+            # Today there are fewer steps between: then the name alone says which one is meant.
+            step = places.find(place, field) or places.find(env[var], field) or places.find(env[next(iter(env))], field)
             if step is None and field not in ("args", "requires", "ranges", "well_formed", "lifetimes", "type_inv"):
                 left.append(f"{var}{m.group(2)}.{field} at {place}")
             new = f"{var}.{step or field}"
+            arm = places.arm(env[var], step)
+            if arm and rest.startswith(".given.1"):
+                new = f"{var}.{arm}.is"
+                out.append(body[at: m.start()] + new)
+                at = m.end() + len(".given.1")
+                continue
         out.append(body[at: m.start()] + new)
         at = m.end()
     out.append(body[at:])
@@ -149,6 +166,33 @@ def today(text):
     text = re.sub(r"(\.in[-_][\w-]+)\.keys\d*\b", r"\1.is", text)
     atom = r"(?:\([^()]*\)|[^\s(),]+)"
     return re.sub(rf"\bnot-(?:true|false) {atom} ([^\s(),]+\.(?:true|false))\b", r"\1", text)
+
+
+def lent(root, callee):
+    """The `&mut` parameters of a function of some crate, in order."""
+    crate, name = callee.split("::")[0], callee.split("::")[-1]
+    for folder, _, files in os.walk(os.path.join(root, "..", crate, "src")):
+        for file in files:
+            text = open(os.path.join(folder, file), encoding="utf-8").read()
+            for m in re.finditer(rf"\bfn {re.escape(name)}\b(?:<[^(]*>)?\(([^)]*)\)", text):
+                return re.findall(r"(?:&(?:'\w+ )?mut (self))|(?:(\w+): &(?:'\w+ )?mut\b)", m.group(1))
+    return []
+
+
+def ends(body, places, root):
+    """What a call leaves in its `&mut` arguments, by their names: `t.new.1.0` is the second."""
+    alias = dict(re.findall(r"\blet ([A-Za-z][\w′₀-₉']*) = \w+\.([^\s.]+) in\b", body))
+
+    def one(m):
+        step = m.group(1) if m.group(1) in places.callee else alias.get(m.group(1))
+        callee = places.callee.get(step)
+        if callee is None:
+            return m.group(0)
+        params = ["".join(p) for p in lent(root, callee)]
+        k = m.group(2).count(".1")
+        return f"{m.group(1)}.new.{params[k]}" if k < len(params) else m.group(0)
+
+    return re.sub(r"(?<![\w′'-])([A-Za-z][\w′₀-₉'-]*)\.new((?:\.1)*)\.0\b", one, body)
 
 
 def used(imports, text):
@@ -217,7 +261,7 @@ def turn(path, key, of, crate):
             head, rest = eq.split("=", 1)
             params = [p for p in head.split()[1:] if p != "κs"]
             var = params[0] if params else "c"
-            rest = rewrite(rest, {var: place}, places, left, new)
+            rest = ends(rewrite(rest, {var: place}, places, left, new), places, os.path.join("crates", crate))
             answers.append((comment, [f"pub {new} : goal.{new}", *extra, f"{new} {' '.join(params)} ={rest}"]))
             continue
         # a helper: parameters of the form (c : tie.Place)
@@ -228,7 +272,7 @@ def turn(path, key, of, crate):
                 env[v] = flat(p)
         body = re.sub(r"tie\.([^\s)]+)", lambda m: places.new.get(flat(m.group(1)), "goal." + m.group(1)), body)
         if env:
-            body = rewrite(body, env, places, left)
+            body = ends(rewrite(body, env, places, left), places, os.path.join("crates", crate))
         answers.append((comment, body.split("\n")))
     folder = os.path.dirname(path)
     module = f"Rattle.{crate}.proofs." + key

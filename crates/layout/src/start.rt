@@ -7,7 +7,7 @@ fn copy_start(s: &[u8], to: &mut [u8])
     ensures { to.new ≡ take (length to.old) s.now }
 {
     let end = to.len();
-    bytes::copy(&s[..end], to);
+    to.copy_from_slice(&s[..end]);
 }
 
 // The first seven bytes.

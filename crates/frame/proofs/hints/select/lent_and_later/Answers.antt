@@ -1,0 +1,20 @@
+-- `frame::hints::select::lent_and_later` meets its contract.
+use mathlib.Core.Path.{ap, ◌∙◌}
+use mir.Syntax.{w16}
+use Rattle.ground.proofs.Bits.{kept}
+use Rattle.frame.specs.hints.Distances.{from_current}
+use Rattle.frame.proofs.hints.Described.{hint-fits}
+use Rattle.frame.specs.hints.Selection.{later}
+use borrow.Author.Rules.{rules}
+use Rattle.frame.proofs.hints.select.lent_and_later.Goals as goal
+
+pub from_current-requires : goal.from_current-requires
+from_current-requires c = let s = c in (s.requires.0, hint-fits _ _ s.requires.0 c.hint.ensures (search rules))
+
+pub returns-then-is_lent : goal.returns-then-is_lent
+unfolding later
+returns-then-is_lent c = let s = c in let e = kept w16 c.from_current.type_inv (c.from_current.ensures ∙ ap (from_current s.args.d) c.hint.ensures) in rw (← c.is_lent.ensures, c.if-is_lent.true, c.ahead.ensures, e)
+
+pub returns : goal.returns
+unfolding later
+returns c = rw (← c.is_lent.ensures, c.if-is_lent.false)
