@@ -62,19 +62,23 @@ class Places:
 
     def find(self, place, field):
         """The new name of the old step `field`, at `place` or else from there upwards."""
-        old = re.sub(r"-(\d+)$", r"\1", flat(field)).lower()
-        stem = re.sub(r"\d+$", "", old)
-        here = self.step.get(place, ("", ""))
-        if re.sub(r"\d+$", "", here[0].lower()) == stem and stem:
-            return here[1]
-        for same in (lambda x: x == old, lambda x: x == old + "2"):
-            at = place
-            while at is not None:
-                if same(self.step.get(at, ("", ""))[0].lower()):
-                    return self.step[at][1]
-                at = self.parent.get(at)
-        return None
 
+        def plain(name):
+            return re.sub(r"-(?=\d+$)", "", flat(name)).lower()
+
+        steps = {plain(x) for x, _ in self.step.values()}
+        old = plain(field)
+        number = re.search(r"(?<!-)\d*$", field).group(0)
+        stem = plain(field[: len(field) - len(number)])
+        # A call whose first step today has the number 2, since the record has a field of its name.
+        if stem not in steps and stem + "1" not in steps and stem + "2" in steps:
+            old = stem + str(int(number or 1) + 1)
+        at = place
+        while at is not None:
+            if plain(self.step.get(at, ("", ""))[0]) == old:
+                return self.step[at][1]
+            at = self.parent.get(at)
+        return None
 
     def callees(self):
         """What the steps call, by the steps' names of today: an arm on a call's result stands for the call."""
@@ -319,6 +323,14 @@ def by_name(rest, names):
     head, tail = rest[:i], rest[i:].strip()
     if re.match(r"(search|omega|record|grind)\b", tail):
         return rest
+    if tail.startswith("rw ("):
+        depth = 0
+        for at, ch in enumerate(tail):
+            depth += (ch in "([{") - (ch in ")]}")
+            if ch == ")" and depth == 0:
+                break
+        if tail[at + 1:].strip().startswith("("):
+            return head + tail[: at + 2] + "(" + by_name(tail[at + 1:].strip(), names).strip() + ")\n"
     parts, left, got = tail, list(names), []
     while len(left) > 1:
         split = halves(parts)
