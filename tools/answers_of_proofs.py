@@ -45,7 +45,7 @@ def decls(text):
 
 class Places:
     def __init__(self, of):
-        self.parent, self.step, self.new, self.callee = {}, {}, {}, {}
+        self.parent, self.step, self.new, self.callee, self.params = {}, {}, {}, {}, of["params"]
         for (name, parent, step, callee, extra), new in zip(of["places"], of["places_by_name"]):
             if callee:
                 self.callee[step[1]] = callee
@@ -62,6 +62,7 @@ class Places:
 
     def find(self, place, field):
         """The new name of the old step `field`, from `place` upwards."""
+        field = field[0].lower() + field[1:]
         f = {flat(field), re.sub(r"-(\d+)$", r"\1", flat(field)), flat(field.removesuffix("_lem"))}
         while place is not None:
             if self.step.get(place, ("", ""))[0] in f:
@@ -88,7 +89,7 @@ def rewrite(body, env, places, left, goal=None, named=None):
             return None
         return f"(goal.at.{goal} {var}).{places.new[place]}"
 
-    chain = re.compile(r"(?<![\w.′₀'-])([A-Za-z][\w′₀-₉']*)((?:\.before)*)(?:\.([A-Za-z][\w'-]*))?")
+    chain = re.compile(r"(?<![\w.′₀'-])([A-Za-z][\w′₀-₉']*)((?:\.before(?![\w-]))*)(?:\.([A-Za-z][\w'-]*))?")
     out, at = [], 0
     for m in chain.finditer(body):
         var = m.group(1)
@@ -156,7 +157,7 @@ def invariant(name, lines, of):
         if p == "_":
             continue
         to = f"l.initial.{v}" if when == "initial" else f"l.{v}"
-        body = re.sub(rf"(?<![\w.′₀-₉'-]){re.escape(p)}(?![\w′₀-₉'-])", lambda m: "\0" + to, body)
+        body = re.sub(rf"(?<![\w.′₀-₉'\0-]){re.escape(p)}(?![\w′₀-₉'-])", lambda m: "\0" + to, body)
     body = body.replace("\0", "")
     return [f"abbrev pub {kind}-{new} : goal.{kind}-{new}", *extra, f"{kind}-{new} l ={body}"]
 
@@ -168,19 +169,124 @@ def today(text):
     return re.sub(rf"\bnot-(?:true|false) {atom} ([^\s(),]+\.(?:true|false))\b", r"\1", text)
 
 
-def lent(root, callee):
-    """The `&mut` parameters of a function of some crate, in order."""
-    crate, name = callee.split("::")[0], callee.split("::")[-1]
+def source(root, callee):
+    """What stands from the head of a function of some crate on, and the file's text."""
+    crate, *modules, name = callee.split("::")
+    best = None
     for folder, _, files in os.walk(os.path.join(root, "..", crate, "src")):
-        for file in files:
-            text = open(os.path.join(folder, file), encoding="utf-8").read()
-            for m in re.finditer(rf"\bfn {re.escape(name)}\b(?:<[^(]*>)?\(([^)]*)\)", text):
-                return re.findall(r"(?:&(?:'\w+ )?mut (self))|(?:(\w+): &(?:'\w+ )?mut\b)", m.group(1))
-    return []
+        for file in sorted(files):
+            path = os.path.join(folder, file)
+            inside = os.path.relpath(path, os.path.join(root, "..", crate, "src"))[:-3].split("/")
+            text = open(path, encoding="utf-8").read()
+            for m in re.finditer(rf"\bfn {re.escape(name)}\b", text):
+                fits = sum(1 for a, b in zip(inside, modules) if a == b)
+                if best is None or fits > best[0]:
+                    best = (fits, text[m.start():])
+    return best[1] if best else ""
 
 
-def ends(body, places, root):
-    """What a call leaves in its `&mut` arguments, by their names: `t.new.1.0` is the second."""
+def split(text, mark):
+    """The parts of a text between marks that stand in no brackets."""
+    out, depth, last, i = [], 0, 0, 0
+    while i < len(text):
+        if text[i] in "([{":
+            depth += 1
+        elif text[i] in ")]}":
+            depth -= 1
+        elif depth == 0 and text.startswith(mark, i):
+            out.append(text[last:i])
+            last = i + len(mark)
+        i += 1
+    return out + [text[last:]]
+
+
+def clauses(root, callee):
+    """The clauses of a function of some crate: of each kind, the names, and how many facts each joins."""
+    text = source(root, callee)
+    out = {"requires": [], "ensures": []}
+    at = 0
+    while True:
+        m = re.compile(r"\s*(requires|ensures)\s*(\w*)\s*\{").search(text, at)
+        stop = re.compile(r"^\s*\{|;\s*$", re.M).search(text, at)
+        if not m or (stop and stop.start() < m.start()):
+            return out
+        depth, i = 1, m.end()
+        while depth:
+            depth += {"{": 1, "}": -1}.get(text[i], 0)
+            i += 1
+        out[m.group(1)].append((m.group(2), len(split(text[m.end():i - 1], "×"))))
+        at = i
+
+
+def told(body, var, places, root, own):
+    """The parts of a contract of several clauses have names now."""
+    mine = clauses(root, own)
+    kinds = {var: ("root",)}
+    word = r"[A-Za-z][\w′₀-₉']*"
+
+    def walk(m):
+        var, fields = m.group(1), m.group(2).split(".")[1:]
+        kind, out = kinds.get(var), var
+        for f in fields:
+            nxt = None
+            if kind == ("root",):
+                if f in places.callee:
+                    nxt = ("call", places.callee[f])
+                elif f == "requires" and len(mine["requires"]) > 1:
+                    nxt = ("clauses", mine["requires"])
+                out += "." + f
+            elif kind and kind[0] == "call" and f == "ensures":
+                known = clauses(root, kind[1])["ensures"]
+                nxt = ("clauses", known) if len(known) > 1 else None
+                out += "." + f
+            elif kind and kind[0] == "clauses" and f.isdigit():
+                k = int(f)
+                known = kind[1]
+                if k + 1 < len(known) or (k + 1 == len(known) and known[-1][1] == 1):
+                    out += "." + known[k][0]
+                else:
+                    out += f".{known[-1][0]}.{k - len(known) + 1}"
+            else:
+                out += "." + f
+            kind = nxt
+        before = body[: m.start()]
+        bound = re.search(rf"\blet ({word}) = $", before)
+        if bound and re.match(r"\s+in\b", body[m.end():]):
+            kinds[bound.group(1)] = kind
+        return out
+
+    return re.sub(rf"(?<![\w.′₀-₉'-])({word})((?:\.[\w-]+)*)", walk, body)
+
+
+def built(body, names):
+    """The last tuple of an answer as a record of so many clauses."""
+    end = len(body.rstrip())
+    while end and body[end - 1] == ")":
+        depth, i = 0, end - 1
+        while i >= 0:
+            depth += {")": 1, "]": 1, "}": 1, "(": -1, "[": -1, "{": -1}.get(body[i], 0)
+            if depth == 0:
+                break
+            i -= 1
+        inner = body[i + 1:end - 1]
+        parts = [p for p in split(inner, ",") if p.strip()]
+        if len(parts) >= len(names):
+            last = ",".join(parts[len(names) - 1:])
+            parts = parts[:len(names) - 1] + [f"({last.strip()})" if len(parts) > len(names) else last]
+            fields = "; ".join(f"{n} = {' '.join(p.split()) if chr(10) not in p.strip() else p.strip()}" for n, p in zip(names, parts))
+            alone = re.search(r"(^|=|\bin)\s*$", body[:i])
+            made = "record { " + fields + " }"
+            return body[:i] + (made if alone else f"({made})") + body[end:]
+        if len(parts) != 1:
+            return body
+        # the tuple is the last argument of what stands in these brackets
+        got = built(inner, names)
+        return body[:i + 1] + got + body[end - 1:] if got != inner else body
+    return body
+
+
+def ends(body, places):
+    """What a call leaves in its arguments, by their names: `t.new.1.0` is the second."""
     alias = dict(re.findall(r"\blet ([A-Za-z][\w′₀-₉']*) = \w+\.([^\s.]+) in\b", body))
 
     def one(m):
@@ -188,7 +294,7 @@ def ends(body, places, root):
         callee = places.callee.get(step)
         if callee is None:
             return m.group(0)
-        params = ["".join(p) for p in lent(root, callee)]
+        params = places.params.get(callee, [])
         k = m.group(3).count(".1")
         return f"{m.group(1)}.{m.group(2)}.{params[k]}" if k < len(params) else m.group(0)
 
@@ -213,11 +319,21 @@ def used(imports, text):
     return out
 
 
+def asked(goal, places):
+    """The function whose `requires` a goal is."""
+    m = re.match(r"(.+)-requires(-\d+)?$", goal)
+    if not m:
+        return None
+    return places.callee.get(m.group(1) + (m.group(2) or "")) or places.callee.get(m.group(1))
+
+
 def turn(path, key, of, crate):
     text = open(path, encoding="utf-8").read().replace(".type-inv", ".type_inv")
     if "tie.close" not in text:
         return "walks by hand"
     places = Places(of)
+    home = os.path.join("crates", crate)
+    own = crate + "::" + key.replace(".", "::")
     needs = {}
     for (old, new), (place, _) in zip(of["needs"], of["asked_at"]):
         needs[flat(old)] = (new, flat(place))
@@ -261,7 +377,13 @@ def turn(path, key, of, crate):
             head, rest = eq.split("=", 1)
             params = [p for p in head.split()[1:] if p != "κs"]
             var = params[0] if params else "c"
-            rest = ends(rewrite(rest, {var: place}, places, left, new), places, os.path.join("crates", crate))
+            rest = ends(rewrite(rest, {var: place}, places, left, new), places)
+            rest = told(rest, var, places, home, own)
+            kind, callee = ("ensures", own) if new.startswith("returns") else ("requires", asked(new, places))
+            if callee:
+                names = [n for n, _ in clauses(home, callee)[kind]]
+                if len(names) > 1:
+                    rest = built(rest, names)
             answers.append((comment, [f"pub {new} : goal.{new}", *extra, f"{new} {' '.join(params)} ={rest}"]))
             continue
         # a helper: parameters of the form (c : tie.Place)
@@ -272,7 +394,7 @@ def turn(path, key, of, crate):
                 env[v] = flat(p)
         body = re.sub(r"tie\.([^\s)]+)", lambda m: places.new.get(flat(m.group(1)), "goal." + m.group(1)), body)
         if env:
-            body = ends(rewrite(body, env, places, left), places, os.path.join("crates", crate))
+            body = ends(rewrite(body, env, places, left), places)
         answers.append((comment, body.split("\n")))
     folder = os.path.dirname(path)
     module = f"Rattle.{crate}.proofs." + key
