@@ -62,10 +62,9 @@ class Places:
 
     def find(self, place, field):
         """The new name of the old step `field`, from `place` upwards."""
-        field = field[0].lower() + field[1:]
-        f = {flat(field), re.sub(r"-(\d+)$", r"\1", flat(field)), flat(field.removesuffix("_lem"))}
+        f = {flat(x).lower() for x in (field, re.sub(r"-(\d+)$", r"\1", field), field.removesuffix("_lem"))}
         while place is not None:
-            if self.step.get(place, ("", ""))[0] in f:
+            if self.step.get(place, ("", ""))[0].lower() in f:
                 return self.step[place][1]
             place = self.parent.get(place)
         return None
