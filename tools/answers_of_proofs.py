@@ -45,10 +45,10 @@ def decls(text):
 
 class Places:
     def __init__(self, of):
-        self.parent, self.step, self.new, self.callee = {}, {}, {}, {}
+        self.parent, self.step, self.new, self.called = {}, {}, {}, {}
         for (name, parent, step, callee, extra), new in zip(of["places"], of["places_by_name"]):
             if callee:
-                self.callee[step[1]] = callee
+                self.called[flat(name)] = callee
             self.parent[flat(name)] = flat(parent) if parent else None
             self.step[flat(name)] = (flat(step[0]), step[1])
             self.new[flat(name)] = new
@@ -61,14 +61,35 @@ class Places:
         return place
 
     def find(self, place, field):
-        """The new name of the old step `field`, from `place` upwards."""
-        f = {flat(field), re.sub(r"-(\d+)$", r"\1", flat(field))}
-        while place is not None:
-            if self.step.get(place, ("", ""))[0] in f:
-                return self.step[place][1]
-            place = self.parent.get(place)
+        """The new name of the old step `field`, at `place` or else from there upwards."""
+
+        def plain(name):
+            return re.sub(r"-(?=\d+$)", "", flat(name)).lower()
+
+        steps = {plain(x) for x, _ in self.step.values()}
+        old = plain(field)
+        number = re.search(r"(?<!-)\d*$", field).group(0)
+        stem = plain(field[: len(field) - len(number)])
+        # A call whose first step today has the number 2, since the record has a field of its name.
+        if stem not in steps and stem + "1" not in steps and stem + "2" in steps:
+            old = stem + str(int(number or 1) + 1)
+        at = place
+        while at is not None:
+            if plain(self.step.get(at, ("", ""))[0]) == old:
+                return self.step[at][1]
+            at = self.parent.get(at)
         return None
 
+    def callees(self):
+        """What the steps call, by the steps' names of today: an arm on a call's result stands for the call."""
+        out = {}
+        for place, (old, new) in self.step.items():
+            callee = self.called.get(place)
+            if old == "match":
+                callee = callee or self.called.get(self.parent.get(place))
+            if callee:
+                out[new] = callee
+        return out
 
     def arm(self, place, step):
         """The arm that told the fact which the step `step`, as it is called today, stood for."""
@@ -78,7 +99,7 @@ class Places:
         return self.step[above][1] if above and self.step[above][0] == "match" else None
 
 
-def rewrite(body, env, places, left, goal=None, named=None):
+def rewrite(body, env, places, left, goal=None, helpers=None):
     """Rewrites chains `x.before.before.step` where x is known to stand at a place."""
     env = dict(env)
 
@@ -108,14 +129,21 @@ def rewrite(body, env, places, left, goal=None, named=None):
             elif place == env[base] and var == base:
                 continue
             else:
+                taker = re.search(r"(?<![\w.-])([\w-]+)\s+$", body[: m.start()])
+                place = (helpers or {}).get(taker.group(1) if taker else "", place)
                 new = (whole(base, place) if place != env[base] else base) if goal else body[m.start(): m.end()]
                 new = new or var
         else:
             # Today there are fewer steps between: then the name alone says which one is meant.
-            step = places.find(place, field) or places.find(env[var], field) or places.find(env[next(iter(env))], field)
+            step = places.find(place, field) or places.find(env[var], field)
             if step is None and field not in ("args", "requires", "ranges", "well_formed", "lifetimes", "type_inv"):
                 left.append(f"{var}{m.group(2)}.{field} at {place}")
             new = f"{var}.{step or field}"
+            side = re.match(r"\.(taken|left)(?![\w-])", rest)
+            if side and step and step.startswith("if-"):
+                out.append(body[at: m.start()] + new + {"taken": ".true", "left": ".false"}[side.group(1)])
+                at = m.end() + side.end()
+                continue
             arm = places.arm(env[var], step)
             if arm and rest.startswith(".given.1"):
                 new = f"{var}.{arm}.is"
@@ -156,43 +184,174 @@ def invariant(name, lines, of):
         if p == "_":
             continue
         to = f"l.initial.{v}" if when == "initial" else f"l.{v}"
-        body = re.sub(rf"(?<![\w.′₀-₉'-]){re.escape(p)}(?![\w′₀-₉'-])", lambda m: "\0" + to, body)
+        body = re.sub(rf"((?:record \{{|;)\s*)?(?<![\w.′₀-₉'\0-]){re.escape(p)}(?![\w′₀-₉'-])(\s*=(?!=))?",
+                      lambda m: m.group(0) if m.group(1) and m.group(2) else (m.group(1) or "") + "\0" + to + (m.group(2) or ""), body)
     body = body.replace("\0", "")
     return [f"abbrev pub {kind}-{new} : goal.{kind}-{new}", *extra, f"{kind}-{new} l ={body}"]
+
+
+def contracts():
+    """The names of each function's clauses, by its path, where it has two or more of a kind."""
+    found = {}
+    for crate in sorted(os.listdir("crates")):
+        src = os.path.join("crates", crate, "src")
+        for folder, _, files in os.walk(src):
+            for name in files:
+                if not name.endswith(".rt"):
+                    continue
+                path = [crate] + [x for x in os.path.relpath(os.path.join(folder, name), src)[:-3].split("/") if x not in ("lib", "main", "mod")]
+                inside, fn, heading = None, None, False
+                for line in open(os.path.join(folder, name), encoding="utf-8"):
+                    if m := re.match(r"impl(?:<.*?>)?\s+(\w+)", line):
+                        inside = m.group(1)
+                    elif line.startswith("}"):
+                        inside = None
+                    if m := re.match(r"\s*(?:pub(?:\(\w+\))? )?(?:unsafe )?(?:extern \S+ )?fn (\w+)", line):
+                        fn = found.setdefault("::".join(path + ([inside] if inside else []) + [m.group(1)]), {"requires": [], "ensures": [], "takes": []})
+                        heading = True
+                    if fn and heading:
+                        fn["takes"] += re.findall(r"(?:^\s*|[(,]\s*)(?:mut )?(?:&mut |&)?(self\b|\w+(?=: ))", line)
+                        heading = ")" not in line
+                    if (m := re.match(r"\s+(requires|ensures)( \w+)? \{", line)) and fn:
+                        fn[m.group(1)].append((m.group(2) or "").strip())
+    return found
+
+
+def nested(base, names):
+    parts = [f"{base}.{n}" for n in names]
+    text = parts.pop()
+    while parts:
+        text = f"({parts.pop()}, {text})"
+    return text
+
+
+def pick(base, path, names):
+    """The clause that `base` followed by the positions `path` was, pairs nested to the right."""
+    at = 0
+    while path and at < len(names) - 1:
+        at, done = (at, True) if path.pop(0) == "0" else (at + 1, False)
+        if done or at == len(names) - 1:
+            return "".join([f"{base}.{names[at]}"] + ["." + x for x in path])
+    return nested(base, names[at:])
+
+
+def named_clauses(text, own, callees, known, params):
+    """Clauses by their names, where an old proof has positions."""
+    records = []  # bases that stand for a contract's clauses: pattern and names
+    steps = dict(callees)
+
+    def names_of(callee, kind):
+        names = known.get(callee, {}).get(kind, [])
+        return names if len(names) > 1 and all(names) else None
+
+    for m in re.finditer(r"\blet (\w+) = \w+\.([\w-]+) in\b", text):
+        if m.group(2) in steps:
+            records.append((rf"{re.escape(m.group(1))}\.ensures", names_of(steps[m.group(2)], "ensures")))
+            index = re.escape(m.group(1))
+            text = re.sub(rf"(?<![\w.-]){index}\.auto((?:\.[01])+)", lambda k: f"{m.group(1)}.auto." + params[steps[m.group(2)]][k.group(1).count("1")], text)
+    records.append((r"\w+\.requires", names_of(own, "requires")))
+    for step, callee in steps.items():
+        records.append((rf"\w+\.{re.escape(step)}\.ensures", names_of(callee, "ensures")))
+        text = re.sub(rf"(?<![\w.-])(\w+\.{re.escape(step)})\.auto((?:\.[01])+)", lambda k: f"{k.group(1)}.auto." + params[callee][k.group(2).count("1")], text)
+    for pattern, names in list(records):
+        if not names:
+            continue
+        for m in re.finditer(rf"\blet (\w+) = {pattern} in\b", text):
+            records.append((re.escape(m.group(1)), names))
+    for pattern, names in records:
+        if not names:
+            continue
+
+        def put(m):
+            around = text_now[max(0, m.start() - 60): m.start()], text_now[m.end(): m.end() + 4]
+            path = [x for x in m.group(2).split(".") if x]
+            if re.search(r"\blet \w+ = $", around[0]) and around[1].startswith(" in") and not path:
+                return m.group(0)
+            if not path and (re.search(r"\blet $", around[0]) or re.match(r"\.[a-z]", around[1])):
+                return m.group(0)
+            return pick(m.group(1), path, names)
+
+        text_now = text
+        text = re.sub(rf"(?<![\w.'-])({pattern})((?:\.\d)*)(?![\w'-])", put, text)
+    return text
+
+
+def by_parameter(text, known, own):
+    """An argument that had the name of its local has its parameter's."""
+    lent = "|".join([r"\w+\.args", *(re.escape(x) for x in re.findall(r"\blet (\w+) = \w+\.args in\b", text))])
+    return re.sub(rf"(?<![\w.'-])({lent})\.t(\d+)(?![\w-])", lambda k: k.group(1) + "." + known[own]["takes"][int(k.group(2)) - 1], text)
+
+
+def halves(tail):
+    """The parts of a tuple."""
+    if not (tail.startswith("(") and tail.endswith(")")):
+        return None
+    depth, parts, start = 0, [], 1
+    for i, ch in enumerate(tail):
+        if ch in "([{":
+            depth += 1
+        elif ch in ")]}":
+            depth -= 1
+            if depth == 0 and i != len(tail) - 1:
+                return None
+        elif ch == "," and depth == 1:
+            parts.append(tail[start:i].strip())
+            start = i + 1
+    last = tail[start:-1].strip()
+    if last:
+        parts.append(last)
+    return parts if len(parts) > 1 else None
+
+
+def by_name(rest, names):
+    """An answer's tuple as a record of the clauses."""
+    i = 0
+    while True:
+        while i < len(rest) and rest[i].isspace():
+            i += 1
+        if not re.match(r"let\b", rest[i:]):
+            break
+        depth = 0
+        for m in re.finditer(r"[(\[{]|[)\]}]|\blet\b|(?<![\w-])in\b(?![\w-])", rest[i:]):
+            w = m.group(0)
+            depth += 1 if w in "([{" or w == "let" else -1
+            if w == "in" and depth == 0:
+                i += m.end()
+                break
+        else:
+            return rest
+    head, tail = rest[:i], rest[i:].strip()
+    if re.match(r"(search|omega|record|grind)\b", tail):
+        return rest
+    if tail.startswith("rw ("):
+        depth = 0
+        for at, ch in enumerate(tail):
+            depth += (ch in "([{") - (ch in ")]}")
+            if ch == ")" and depth == 0:
+                break
+        if tail[at + 1:].strip().startswith("("):
+            return head + tail[: at + 2] + "(" + by_name(tail[at + 1:].strip(), names).strip() + ")\n"
+    parts, left, got = tail, list(names), []
+    while len(left) > 1:
+        split = halves(parts)
+        if not split:
+            break
+        got.append((left.pop(0), split[0]))
+        parts = split[1] if len(split) == 2 else "(" + ", ".join(split[1:]) + ")"
+    if len(left) == 1:
+        got.append((left[0], parts))
+        return head + "record { " + " ".join(f"{n} = {t};" for n, t in got) + " }\n"
+    if got:
+        return head + "(LEFT " + tail + ")"
+    return head + f"let it = {tail} in record {{ " + " ".join(f"{n} = {'it' + '.1' * k + ('.0' if k < len(names) - 1 else '')};" for k, n in enumerate(names)) + " }\n"
 
 
 def today(text):
     """What a test on a call's result and an arm say today."""
     text = re.sub(r"(\.in[-_][\w-]+)\.keys\d*\b", r"\1.is", text)
+    text = re.sub(r"\.(in_default[\w-]*)\.rest\b", r".\1.\1-own.rest", text)
     atom = r"(?:\([^()]*\)|[^\s(),]+)"
     return re.sub(rf"\bnot-(?:true|false) {atom} ([^\s(),]+\.(?:true|false))\b", r"\1", text)
-
-
-def lent(root, callee):
-    """The `&mut` parameters of a function of some crate, in order."""
-    crate, name = callee.split("::")[0], callee.split("::")[-1]
-    for folder, _, files in os.walk(os.path.join(root, "..", crate, "src")):
-        for file in files:
-            text = open(os.path.join(folder, file), encoding="utf-8").read()
-            for m in re.finditer(rf"\bfn {re.escape(name)}\b(?:<[^(]*>)?\(([^)]*)\)", text):
-                return re.findall(r"(?:&(?:'\w+ )?mut (self))|(?:(\w+): &(?:'\w+ )?mut\b)", m.group(1))
-    return []
-
-
-def ends(body, places, root):
-    """What a call leaves in its `&mut` arguments, by their names: `t.new.1.0` is the second."""
-    alias = dict(re.findall(r"\blet ([A-Za-z][\w′₀-₉']*) = \w+\.([^\s.]+) in\b", body))
-
-    def one(m):
-        step = m.group(1) if m.group(1) in places.callee else alias.get(m.group(1))
-        callee = places.callee.get(step)
-        if callee is None:
-            return m.group(0)
-        params = ["".join(p) for p in lent(root, callee)]
-        k = m.group(2).count(".1")
-        return f"{m.group(1)}.new.{params[k]}" if k < len(params) else m.group(0)
-
-    return re.sub(r"(?<![\w′'-])([A-Za-z][\w′₀-₉'-]*)\.new((?:\.1)*)\.0\b", one, body)
 
 
 def used(imports, text):
@@ -213,17 +372,25 @@ def used(imports, text):
     return out
 
 
-def turn(path, key, of, crate):
+def turn(path, key, of, crate, known):
     text = open(path, encoding="utf-8").read().replace(".type-inv", ".type_inv")
     if "tie.close" not in text:
         return "walks by hand"
     places = Places(of)
+    own = crate + "::" + key.replace(".", "::").replace("+", "")
+    callees = places.callees()
     needs = {}
     for (old, new), (place, _) in zip(of["needs"], of["asked_at"]):
         needs[flat(old)] = (new, flat(place))
     chunks = decls(text)
     imports, first = [], []
     invariants, answers, left = [], [], []
+    # What a helper takes: the place that its first argument stands at.
+    helpers = {}
+    for _, lines in chunks:
+        if (m := re.match(rf"({ID}) : \(\w+ : tie\.([^\s)]+)", lines[0])) and flat(m.group(2)) in places.new:
+            helpers[m.group(1)] = flat(m.group(2))
+    said = "\n".join("\n".join(lines) for _, lines in chunks if re.match(rf"(abbrev )?(pub )?{ID} :\s*tie\.(invariant|decreases)", lines[0]))
     for comment, lines in chunks:
         if lines[0].startswith("use "):
             first += comment
@@ -243,7 +410,7 @@ def turn(path, key, of, crate):
             continue
         if t and t.group(1):
             old = flat(t.group(2))
-            plain = re.sub(r"^overflow-", "", old)
+            plain = re.sub(r"^(overflow|nonzero)-", "", old)
             hit = needs.get(old) or needs.get(plain)
             body = "\n".join(lines)
             if re.fullmatch(r"(unfolding .*\n)?\S+ c( κs)? =\s*search rules", "\n".join(lines[1:])) and "unfolding" not in body:
@@ -261,8 +428,24 @@ def turn(path, key, of, crate):
             head, rest = eq.split("=", 1)
             params = [p for p in head.split()[1:] if p != "κs"]
             var = params[0] if params else "c"
-            rest = ends(rewrite(rest, {var: place}, places, left, new), places, os.path.join("crates", crate))
+            rest = rewrite(rest, {var: place}, places, left, new, helpers)
+            rest = by_parameter(rest, known, own)
+            rest = named_clauses(rest, own, callees, known, of["params"])
+            asked = own if old.startswith("returns") else None
+            if "-requires" in old:
+                stem = re.sub(r"-requires.*", "", old)
+                asked = next((x for x in of["params"] if flat(x.split("::")[-1]) == stem), None)
+            names = known.get(asked, {}).get("ensures" if asked == own else "requires", [])
+            if len(names) > 1 and all(names):
+                rest = by_name(rest, names)
             answers.append((comment, [f"pub {new} : goal.{new}", *extra, f"{new} {' '.join(params)} ={rest}"]))
+            continue
+        # what an invariant cites stands beside it
+        d = re.match(r"(record|data|abbrev|unfoldable) (pub )?([\w-]+)", lines[0])
+        if d and re.search(rf"(?<![\w.-]){re.escape(d.group(3))}(?![\w-])", said):
+            if d.group(1) == "record":
+                lines = [lines[0], *(re.sub(r"^  (?=\w)", "  pub ", x) for x in lines[1:])]
+            invariants.append((comment, [lines[0] if d.group(2) or d.group(1) in ("record", "data") and lines[0].startswith("pub") else "pub " + lines[0] if d.group(1) in ("record", "data") else lines[0].replace(" ", " pub ", 1), *lines[1:]]))
             continue
         # a helper: parameters of the form (c : tie.Place)
         body = "\n".join(lines)
@@ -270,9 +453,10 @@ def turn(path, key, of, crate):
         for v, p in re.findall(r"\((\w+) : tie\.([^\s)]+)", body):
             if flat(p) in places.new:
                 env[v] = flat(p)
-        body = re.sub(r"tie\.([^\s)]+)", lambda m: places.new.get(flat(m.group(1)), "goal." + m.group(1)), body)
+        body = re.sub(r"tie\.([^\s)]+)(?: (?:invariant|decreases)-[\w-]+)*", lambda m: places.new.get(flat(m.group(1)), "goal." + m.group(1)), body)
         if env:
-            body = ends(rewrite(body, env, places, left), places, os.path.join("crates", crate))
+            body = named_clauses(rewrite(body, env, places, left), own, callees, known, of["params"])
+            body = by_parameter(body, known, own)
         answers.append((comment, body.split("\n")))
     folder = os.path.dirname(path)
     module = f"Rattle.{crate}.proofs." + key
@@ -307,6 +491,7 @@ def main():
     else:
         listed = os.environ["NAMES"]
     names = json.load(open(listed))
+    known = contracts()
     for folder, dirs, files in os.walk(os.path.join(root, "proofs")):
         dirs.sort()
         if "Proof.antt" not in files:
@@ -319,7 +504,7 @@ def main():
             print(f"{key}: no names")
             continue
         try:
-            said = turn(os.path.join(folder, "Proof.antt"), key, of, crate)
+            said = turn(os.path.join(folder, "Proof.antt"), key, of, crate, known)
         except Exception as e:  # noqa: BLE001
             said = f"FAILED {type(e).__name__} {e}"
         if said:

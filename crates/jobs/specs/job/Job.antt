@@ -1,6 +1,6 @@
 -- A job's record (document 01, "Jobs and windows"; refusals 12, 1, 3, 4 and 5): its kind, its count of steps, what is judged before its reads; and a
 -- batch of them.
-use Rattle.std.specs.Prelude.{ℕ, ◌-◌, Bool, ◌&&◌, not, List, eqb, leb, ltb, get_or}
+use Rattle.std.specs.Prelude.{ℕ, ◌-◌, Bool, ◌&&◌, not, eqb, leb, ltb, get_or}
 use Rattle.ground.specs.Below.{all_below}
 use Rattle.ground.specs.Pick.{pick}
 use Rattle.frame.specs.declared.record.Frame.{Frame}
