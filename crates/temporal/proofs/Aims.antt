@@ -48,7 +48,7 @@ towards-within num den integer hp v = lowered-within integer hp (both (projected
 -- the same where num went through a local
 pub taken-towards : (num : ℤ) (den : ℕ) (integer hp : Bool) (v : Mv) {r : Mv} → nat_abs num ≤ 31
     → r ≡ towards (to_z w16 (of_z w16 num)) den integer hp v → r ≡ towards num den integer hp v
-taken-towards num den integer hp v h e = e ∙ ap (λ (n : ℤ). towards n den integer hp v) (to_z-of_z (fits-abs num (omega arith)))
+taken-towards num den integer hp v h e = e ∙ ap (λ (n : ℤ). towards n den integer hp v) (to_z-of_z {w = w16} (fits-abs num (omega arith)))
 
 -- the candidate, by its two vectors
 pub paired : (a : Aim) (v : Mv) {d e : ℕ} {first second : Mv}
@@ -81,7 +81,7 @@ apart_fits {u} {v} a b e f g h = fits-abs (u -ℤ v) (omega (arith, abs-sum u (n
 
 -- the test of two numbers that went through locals
 pub held-apart : (a b : ℤ) {r : Bool} → nat_abs a ≤ 16384 → nat_abs b ≤ 16383 → r ≡ apart (to_z w16 (of_z w16 a)) (to_z w16 (of_z w16 b)) → r ≡ apart a b
-held-apart a b g h e = e ∙ ap₂ apart (to_z-of_z (fits-abs a (omega arith))) (to_z-of_z (fits-abs b (omega arith)))
+held-apart a b g h e = e ∙ ap₂ apart (to_z-of_z {w = w16} (fits-abs a (omega arith))) (to_z-of_z {w = w16} (fits-abs b (omega arith)))
 
 -- a number of 31 at most is what its local reads back
 pub held_small : (z : ℤ) → nat_abs z ≤ 31 → nat_abs (to_z w16 (of_z w16 z)) ≤ 31

@@ -1,0 +1,15 @@
+-- `spatial::neighbours::read::side` meets its contract.
+use Rattle.spatial.specs.neighbours.Neighbour.{side_of}
+use Rattle.spatial.proofs.neighbours.read.side.Goals as goal
+
+pub returns-then-down : goal.returns-then-down
+unfolding side_of
+returns-then-down c = rw (← c.dimensions.ensures, c.in-Of.is, c.if-down.true)
+
+pub returns-in-Refused : goal.returns-in-Refused
+unfolding side_of
+returns-in-Refused c = rw (← c.dimensions.ensures, c.in-Refused.is)
+
+pub returns-else-down : goal.returns-else-down
+unfolding side_of
+returns-else-down c = rw (← c.dimensions.ensures, c.in-Of.is, c.if-down.false)
