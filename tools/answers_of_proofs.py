@@ -66,6 +66,9 @@ class Places:
         def plain(name):
             return re.sub(r"-(?=\d+$)", "", flat(name)).lower()
 
+        # what tools/snake_names.py gave a lemma of a function's name
+        field = re.sub(r"_lem$", "", field)
+
         steps = {plain(x) for x, _ in self.step.values()}
         old = plain(field)
         number = re.search(r"(?<!-)\d*$", field).group(0)
@@ -342,7 +345,9 @@ def by_name(rest, names):
         got.append((left[0], parts))
         return head + "record { " + " ".join(f"{n} = {t};" for n, t in got) + " }\n"
     if got:
-        return head + "(LEFT " + tail + ")"
+        base = parts if re.fullmatch(r"[\w.'-]+", parts) else "it"
+        got += [(n, base + ".1" * k + (".0" if k < len(left) - 1 else "")) for k, n in enumerate(left)]
+        return head + (f"let it = {parts} in " if base == "it" else "") + "record { " + " ".join(f"{n} = {t};" for n, t in got) + " }\n"
     return head + f"let it = {tail} in record {{ " + " ".join(f"{n} = {'it' + '.1' * k + ('.0' if k < len(names) - 1 else '')};" for k, n in enumerate(names)) + " }\n"
 
 

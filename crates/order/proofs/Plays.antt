@@ -8,7 +8,7 @@ use native.Mathlib.Omega.{arith}
 use lib.ListN.{length, get_or, drop}
 use Rattle.ground.specs.Script.{run}
 use Rattle.order.specs.declared.steps.turn.Turned.{Turned}
-use Rattle.order.specs.steps.Turn.{turn_batch, turn_proj, turn_saved, turned as outcome}
+use Rattle.order.specs.steps.Turn.{turn_proj, turn_saved, turned as outcome}
 use Rattle.order.specs.Desk.{Given, Desk, desk, handed_by, turn, plays}
 
 next : (g : Given) (ks : List ℕ) (d : Desk) (i : ℕ) → i < length ks → plays g (drop i ks) d ≡ plays g (drop (suc i) ks) (turn g (get_or ks i 0) d)

@@ -9,7 +9,6 @@ use native.Mathlib.Omega.{arith}
 use lib.Dec.{ltb}
 use lib.ListN.{length}
 use Rattle.ground.specs.Answer.{accepted}
-use Rattle.ground.specs.Pick.{pick}
 use Rattle.ground.specs.Script.{Patch}
 use Rattle.ground.specs.Span.{over, span}
 use Rattle.ground.proofs.Answers.{refused-not, or-accepts}
