@@ -1,0 +1,14 @@
+-- `capture::entries::is_tiled` meets its contract.
+use mathlib.Core.Bool.{true}
+use mathlib.Core.Path.{◌≡◌}
+use Prim.Native.Nat.{◌+◌, ◌*◌, ◌-◌, ◌≤◌}
+use lib.Dec.{eqb}
+use Rattle.ground.specs.Below.{all_below}
+use Rattle.capture.specs.File.{offset_at, start_of}
+use Rattle.capture.proofs.entries.is_tiled.Given as goal
+
+abbrev pub invariant-loop-i : goal.invariant-loop-i
+invariant-loop-i l = (l.i ≤ l.n) × (l.at ≡ start_of l.file l.i) × (l.at ≤ 289 + 4294967296 * l.i) × (all_below l.i (λ k. eqb (offset_at l.file k) (start_of l.file k)) ≡ true)
+
+abbrev pub decreases-loop-i : goal.decreases-loop-i
+decreases-loop-i l = l.n - l.i
