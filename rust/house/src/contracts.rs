@@ -189,12 +189,20 @@ impl Book {
         let mut told = Vec::new();
         for (other, wrong) in &self.libraries {
             for one in wrong {
-                let changes = one.function.as_ref().map(|path| (other.name.clone(), path.clone()));
-                let mut stands = one.stands_for.iter().filter_map(|path| self.meant(&other.name, path));
+                let changes = one
+                    .function
+                    .as_ref()
+                    .map(|path| (other.name.clone(), path.clone()));
+                let mut stands = one
+                    .stands_for
+                    .iter()
+                    .filter_map(|path| self.meant(&other.name, path));
                 let said = format!("{}: {}", one.name, one.words);
                 if changes.as_ref() == own.first() {
                     told.push(said);
-                } else if changes.is_some_and(|path| own.contains(&path)) || stands.any(|path| own.contains(&path)) {
+                } else if changes.is_some_and(|path| own.contains(&path))
+                    || stands.any(|path| own.contains(&path))
+                {
                     let place = one
                         .function
                         .as_deref()
@@ -214,8 +222,16 @@ impl Book {
 
     /// The function of another crate that does all the work of one, if its body is nothing but a call of it.
     fn handed_on(&self, function: &Function) -> Option<(String, String)> {
-        let (called, rest) = function.body.trim_start_matches('{').trim().split_once('(')?;
-        let inside = rest.trim_end().strip_suffix('}')?.trim_end().strip_suffix(')')?;
+        let (called, rest) = function
+            .body
+            .trim_start_matches('{')
+            .trim()
+            .split_once('(')?;
+        let inside = rest
+            .trim_end()
+            .strip_suffix('}')?
+            .trim_end()
+            .strip_suffix(')')?;
         let (name, path) = called.split_once("::")?;
         let called = (name.to_string(), path.to_string());
         (!inside.contains(';') && self.public.contains(&called)).then_some(called)

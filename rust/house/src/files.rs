@@ -86,7 +86,11 @@ pub const OF_A_FUNCTION: [&str; 3] = ["Answers.antt", "Invariants.antt", "Proof.
 /// Without those that prove a single function.
 pub fn below(root: &Path, folder: &str) -> Vec<File> {
     let mut files = all_below(root, folder);
-    files.retain(|file| !OF_A_FUNCTION.iter().any(|name| file.path.ends_with(&format!("/{name}"))));
+    files.retain(|file| {
+        !OF_A_FUNCTION
+            .iter()
+            .any(|name| file.path.ends_with(&format!("/{name}")))
+    });
     files
 }
 

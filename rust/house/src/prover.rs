@@ -45,7 +45,10 @@ impl Copy {
         let top = env::temp_dir().join(format!("jaskkovir-{}-{number}", process::id()));
         let copy = Copy { top };
         make(&copy.top.join(".git"));
-        put(&copy.top.join("crates.txt"), &read(&root().join("crates.txt")));
+        put(
+            &copy.top.join("crates.txt"),
+            &read(&root().join("crates.txt")),
+        );
         for one in crates::all() {
             copy.lay(&one, &Texts::new());
         }
@@ -93,7 +96,9 @@ impl Drop for Copy {
 fn rt(folder: &Path, words: &[&str]) -> Output {
     let mut command = Command::new("rt");
     command.args(words).current_dir(folder).stdin(Stdio::null());
-    command.output().unwrap_or_else(|error| panic!("rt: {error}"))
+    command
+        .output()
+        .unwrap_or_else(|error| panic!("rt: {error}"))
 }
 
 fn said(output: &Output) -> String {
@@ -109,7 +114,9 @@ fn tree(from: &Path, to: &Path, path: &str) {
     }
     make(&other);
     for entry in fs::read_dir(&one).unwrap_or_else(|error| failed(&one, error)) {
-        let name = entry.unwrap_or_else(|error| failed(&one, error)).file_name();
+        let name = entry
+            .unwrap_or_else(|error| failed(&one, error))
+            .file_name();
         let inside = format!("{path}/{}", name.to_str().expect("a name in UTF-8"));
         match one.join(&name) {
             below if below.is_dir() => tree(from, to, &inside),

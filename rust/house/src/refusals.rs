@@ -48,7 +48,11 @@ pub fn renamed(log: &str, function: &str) -> Option<(String, String)> {
         .collect();
     let asked: Vec<&str> = log
         .lines()
-        .filter(|line| missing.iter().any(|name| line.contains(&format!("has no `{name}`"))))
+        .filter(|line| {
+            missing
+                .iter()
+                .any(|name| line.contains(&format!("has no `{name}`")))
+        })
         .filter_map(|line| line.split_once("rattle asks for "))
         .flat_map(|(_, rest)| rest.split('`').skip(1).step_by(2))
         .collect();

@@ -101,12 +101,18 @@ fn no_way_is_taken_for_another() {
 fn a_definition_alone_is_refused_anywhere() {
     let definition = wrong(None);
     let is_refused = |log| is_refused(log, "leaf", &definition, true);
-    assert!(is_refused("./proofs/Laws.antt:9:3: error: `moved`: the two types differ"));
-    assert!(is_refused("./proofs/mv/Mv/is/Answers.antt:9:3: error: `returns`: the two types differ"));
+    assert!(is_refused(
+        "./proofs/Laws.antt:9:3: error: `moved`: the two types differ"
+    ));
+    assert!(is_refused(
+        "./proofs/mv/Mv/is/Answers.antt:9:3: error: `returns`: the two types differ"
+    ));
     assert!(is_refused(
         "fn leaf::mv::Mv::is: no proof: expected answers in ./proofs/mv/Mv/is/Answers.antt; `search` did not prove `returns`"
     ));
-    assert!(!is_refused("./proofs/Laws.antt:9:3: error: `moved`: `still` is not in scope"));
+    assert!(!is_refused(
+        "./proofs/Laws.antt:9:3: error: `moved`: `still` is not in scope"
+    ));
     assert!(!is_refused("logic=proved"));
 }
 

@@ -22,7 +22,8 @@ fn main() -> ExitCode {
     }
     libraries.retain(|library| names.is_empty() || names.contains(&library.name));
     let wrong: Vec<Vec<Wrong>> = libraries.iter().map(Crate::wrong).collect();
-    let edits: Vec<(&Crate, Vec<&Wrong>)> = libraries.iter().zip(&wrong).flat_map(by_edit).collect();
+    let edits: Vec<(&Crate, Vec<&Wrong>)> =
+        libraries.iter().zip(&wrong).flat_map(by_edit).collect();
     for library in &libraries {
         if let Err(log) = build(library) {
             println!("{log}\n{} isn't proved as it stands", library.name);
@@ -51,7 +52,9 @@ fn by_edit<'a>((library, wrong): (&'a Crate, &'a Vec<Wrong>)) -> Vec<(&'a Crate,
 
 /// Those of the wrong programs that aren't refused for themselves. There are as many copies at work as processors.
 fn faults(mut edits: Vec<(&Crate, Vec<&Wrong>)>) -> Vec<String> {
-    let workers = thread::available_parallelism().map_or(1, usize::from).min(edits.len());
+    let workers = thread::available_parallelism()
+        .map_or(1, usize::from)
+        .min(edits.len());
     // The uppermost crates, whose checks are longest, come first.
     let (left, faults) = (Mutex::new(&mut edits), Mutex::new(Vec::new()));
     let work = |number| {
@@ -62,8 +65,13 @@ fn faults(mut edits: Vec<(&Crate, Vec<&Wrong>)>) -> Vec<String> {
                 return;
             };
             let told = tried(&copy, library, &edit);
-            let told = told.iter().map(|one| format!("{}: {} is not refused for itself", library.name, one.name));
-            faults.lock().expect("no worker stops in between").extend(told);
+            let told = told
+                .iter()
+                .map(|one| format!("{}: {} is not refused for itself", library.name, one.name));
+            faults
+                .lock()
+                .expect("no worker stops in between")
+                .extend(told);
         }
     };
     thread::scope(|scope| {
