@@ -120,14 +120,17 @@ fn tree(from: &Path, to: &Path, path: &str) {
         let inside = format!("{path}/{}", name.to_str().expect("a name in UTF-8"));
         match one.join(&name) {
             below if below.is_dir() => tree(from, to, &inside),
-            file => copy(&file, &other.join(&name)),
+            file => {
+                let is_made =
+                    path.starts_with(BUILT) || file.extension().is_some_and(|it| it == "oantt");
+                copy(&file, &other.join(&name), is_made);
+            }
         }
     }
 }
 
-/// What the prover has made it replaces and never writes into, so such a file may have two names; others are copied.
-fn copy(from: &Path, to: &Path) {
-    let is_made = from.extension().is_some_and(|ending| ending == "oantt");
+/// What rt has made it replaces and never writes into, so such a file may have two names.
+fn copy(from: &Path, to: &Path, is_made: bool) {
     if is_made && fs::hard_link(from, to).is_ok() {
         return;
     }
@@ -139,7 +142,6 @@ fn make(folder: &Path) {
 }
 
 fn put(path: &Path, text: &str) {
-    // A name that two files share is taken from one of them first.
     fs::write(path, text).unwrap_or_else(|error| failed(path, error));
 }
 
