@@ -2,6 +2,9 @@
 
 use crate::files::OF_A_FUNCTION;
 use crate::Wrong;
+use std::cmp::Reverse;
+use std::collections::BTreeMap;
+use std::collections::BTreeSet;
 
 /// What is said where a proof file names something that the changed code hasn't.
 const MISFITS: [&str; 3] = [
@@ -39,33 +42,55 @@ pub fn is_refused(log: &str, library: &str, wrong: &Wrong, is_alone: bool) -> bo
 
 /// What in the names of a changed function's places its proof files have and its code has no more, and what stands for
 /// it now. A place is named by the words of the code there, so where these are changed, it has another name; what has
-/// to be proved of it may be as before.
-pub fn renamed(log: &str, function: &str) -> Option<(String, String)> {
-    let missing: Vec<String> = errors(log)
-        .iter()
-        .filter(|error| error.is_of(function))
-        .filter_map(|error| quoted_behind(&error.said, "has no "))
-        .collect();
-    let asked: Vec<&str> = log
-        .lines()
-        .filter(|line| {
-            missing
-                .iter()
-                .any(|name| line.contains(&format!("has no `{name}`")))
-        })
-        .filter_map(|line| line.split_once("rattle asks for "))
-        .flat_map(|(_, rest)| rest.split('`').skip(1).step_by(2))
-        .collect();
-    let leads = |(old, new): &(String, String)| {
-        let mut all = missing.iter().map(|name| with(name, old, new));
-        all.all(|name| asked.contains(&&*name))
+/// to be proved of it may be as before. The new name comes from what the wrong program puts into the code, and the
+/// proof files have it nowhere.
+pub fn renamed(log: &str, wrong: &Wrong, proofs: &[String]) -> Option<(String, String)> {
+    let function = wrong.function.as_ref()?;
+    let errors = errors(log);
+    let own = errors.iter().filter(|error| error.is_of(function));
+    let mut found: BTreeMap<(String, String), usize> = BTreeMap::new();
+    for (missing, named) in own.filter_map(|error| missed(log, &error.said)) {
+        let pairs: BTreeSet<_> = named.iter().filter_map(|new| apart(missing, new)).collect();
+        for pair in pairs {
+            *found.entry(pair).or_default() += 1;
+        }
+    }
+    let is_free = |name: &str| proofs.iter().all(|text| with(text, name, "") == *text);
+    let fits = |(old, new): &(String, String)| {
+        is_free(new) && is_written(old, &wrong.old) && is_written(new, &wrong.new)
     };
-    let pairs = missing
-        .iter()
-        .flat_map(|name| asked.iter().filter_map(|new| apart(name, new)));
-    pairs
-        .filter(leads)
-        .min_by_key(|(old, new)| old.len() + new.len())
+    let found = found.into_iter().filter(|(pair, _)| fits(pair));
+    let best = found.max_by_key(|((old, new), times)| (*times, Reverse(old.len() + new.len())));
+    best.map(|(pair, _)| pair)
+}
+
+/// A name that is missing, and such as are there.
+fn missed<'a>(log: &'a str, said: &'a str) -> Option<(&'a str, Vec<&'a str>)> {
+    if let Some((_, rest)) = said.split_once("has no field `") {
+        let (_, named) = rest.split_once("the fields that can be named here are ")?;
+        return Some((rest.split('`').next()?, quoted(named)));
+    }
+    let (_, rest) = said.split_once("has no `")?;
+    let missing = rest.split('`').next()?;
+    let words = format!("has no `{missing}`; rattle asks for ");
+    let asked = log.lines().find_map(|line| line.split_once(&words));
+    Some((missing, quoted(asked?.1)))
+}
+
+fn quoted(text: &str) -> Vec<&str> {
+    text.split('`').skip(1).step_by(2).collect()
+}
+
+/// Whether all that a run of parts of a name is made of stands in the code: the names and numbers, where an operator is
+/// a word before its number.
+fn is_written(name: &str, code: &str) -> bool {
+    let is_word = |c: char| c.is_alphanumeric() || c == '_';
+    let written: BTreeSet<&str> = code.split(|c: char| !is_word(c)).collect();
+    let is_there = |part: &str| {
+        let number = part.trim_start_matches(|c: char| !c.is_ascii_digit());
+        written.contains(part) || (!number.is_empty() && written.contains(number))
+    };
+    name.split('-').all(is_there)
 }
 
 /// The text with one name, or a run of parts of names, for another.
@@ -105,12 +130,6 @@ fn apart(old: &str, new: &str) -> Option<(String, String)> {
     is_place.then(|| (old.join("-"), new.join("-")))
 }
 
-fn quoted_behind(text: &str, words: &str) -> Option<String> {
-    let (_, rest) = text.split_once(&format!("{words}`"))?;
-    let (name, _) = rest.split_once('`')?;
-    Some(name.into())
-}
-
 /// Where something was refused, what it was, and what was said of it.
 struct Fault {
     place: String,
@@ -128,7 +147,9 @@ impl Fault {
 
     /// What only follows from another refusal shows nothing.
     fn is_fact(&self) -> bool {
-        !self.said.contains("was not admitted") && !self.said.contains("was rejected")
+        !self.name.is_empty()
+            && !self.said.contains("was not admitted")
+            && !self.said.contains("was rejected")
     }
 
     /// Nor does a proof file that no longer fits the code.
@@ -152,8 +173,11 @@ fn errors(log: &str) -> Vec<Fault> {
     let mut errors: Vec<Fault> = Vec::new();
     let mut goes_on = false;
     for line in log.lines() {
-        if let Some((place, rest)) = line.split_once(": error: `") {
-            let (name, said) = rest.split_once('`').unwrap_or((rest, ""));
+        if let Some((place, rest)) = line.split_once(": error: ") {
+            let named = rest
+                .strip_prefix('`')
+                .and_then(|rest| rest.split_once("`: "));
+            let (name, said) = named.unwrap_or(("", rest));
             errors.push(Fault {
                 place: place.into(),
                 name: name.into(),

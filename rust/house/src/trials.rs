@@ -14,6 +14,9 @@ use crate::Wrong;
 use std::collections::BTreeMap;
 use std::fs;
 
+/// How many places of a function may get other names by one wrong program.
+const MOST_NAMES: usize = 4;
+
 /// Of the wrong programs of one edit, those that aren't refused for a fact of their own. What the prover said is left
 /// in target/refused.
 pub fn tried<'a>(copy: &Copy, library: &Crate, edit: &[&'a Wrong]) -> Vec<&'a Wrong> {
@@ -30,7 +33,7 @@ struct Trials<'a> {
     copy: &'a Copy,
     library: &'a Crate,
     /// By which name of a changed function's code its proof files have to call a place, for which other.
-    names: BTreeMap<String, (String, String)>,
+    names: BTreeMap<String, Vec<(String, String)>>,
     logs: usize,
 }
 
@@ -57,9 +60,8 @@ impl Trials<'_> {
     fn log(&mut self, wrong: &[&Wrong]) -> String {
         let mut texts = edits::applied(self.library, wrong.iter().copied());
         for function in wrong.iter().filter_map(|one| one.function.as_ref()) {
-            if let Some((old, new)) = self.names.get(function) {
-                let proofs = self.proofs(function).into_iter();
-                texts.extend(proofs.map(|(path, text)| (path, with(&text, old, new))));
+            if self.names.contains_key(function) {
+                texts.extend(self.proofs(function));
             }
         }
         let only = match wrong {
@@ -76,24 +78,32 @@ impl Trials<'_> {
         log
     }
 
-    /// Whether one of these had places with other names that weren't known before.
+    /// Whether one of these has a place with another name that wasn't known before.
     fn take_names(&mut self, log: &str, left: &[&Wrong]) -> bool {
-        let known = self.names.len();
-        for function in left.iter().filter_map(|one| one.function.as_ref()) {
-            let is_free = |name: &str| {
-                let proofs = self.proofs(function);
-                proofs.values().all(|text| with(text, name, "") == *text)
+        let mut is_new = false;
+        for one in left {
+            let Some(function) = &one.function else {
+                continue;
             };
-            if let Some(names) = renamed(log, function).filter(|(_, new)| is_free(new)) {
-                self.names.entry(function.clone()).or_insert(names);
+            let proofs: Vec<String> = self.proofs(function).into_values().collect();
+            let known = self.names.entry(function.clone()).or_default();
+            if let Some(names) = renamed(log, one, &proofs).filter(|_| known.len() < MOST_NAMES) {
+                known.push(names);
+                is_new = true;
             }
         }
-        known < self.names.len()
+        is_new
     }
 
+    /// The proof files of a function, with the names that its code has now.
     fn proofs(&self, function: &str) -> Texts {
         let folder = format!("proofs/{}", function.replace("::", "/"));
         let files = files::all_below(&self.library.folder, &folder).into_iter();
-        files.map(|file| (file.path, file.text)).collect()
+        let names = self.names.get(function);
+        let told = |text: String| {
+            let names = names.into_iter().flatten();
+            names.fold(text, |text, (old, new)| with(&text, old, new))
+        };
+        files.map(|file| (file.path, told(file.text))).collect()
     }
 }

@@ -74,27 +74,43 @@ fn leaf::mv::Mv::is: no proof: expected answers in ./proofs/mv/Mv/is/Answers.ant
     ));
 }
 
+/// `n < 8` is `n < 7` now; a place of another comparison, with 3, is as before.
 const OTHER_PLACES: &str = "\
 ./proofs/mv/Mv/is/Answers.antt:9:3: error: `returns-else-n-lt8`: `goal.returns-else-n-lt8`: module `Rattle.leaf.proofs.mv.Mv.is.Goals` has no `returns-else-n-lt8` that can be named from here
-help: `Goals` has no `returns-else-n-lt8`; rattle asks for `returns-then-n-lt7`, `returns-else-n-lt7`, `overflow_cast-result`; a `use` line of it can name these places: `Else-n-lt7`
+./proofs/mv/Mv/is/Answers.antt:9:3: error: `returns`: record `Lts.Else` has no field `if-n-lt8` (nearest: .if-n-lt3)
+  the fields that can be named here are `before`, `if-n-lt3`, `if-n-lt7`
+help: `Goals` has no `returns-else-n-lt8`; rattle asks for `returns-else-n-lt3`, `returns-else-n-lt7`, `overflow_cast-result` and 1 more; a `use` line of it can name these places: `Else-n-lt7`
 ";
+
+fn other_places(log: &str, new: &str, proof: &str) -> Option<(String, String)> {
+    let wrong = Wrong {
+        old: "if n < 8 {".into(),
+        new: new.into(),
+        ..wrong(Some("mv::Mv::is"))
+    };
+    renamed(log, &wrong, &[proof.into()])
+}
+
+const PROOF: &str = "returns-else-n-lt8 c = below c.if-n-lt8.false c.if-n-lt3.true lt80 (lt8)";
 
 #[test]
 fn a_place_has_the_name_that_its_code_gives_it() {
-    let names = renamed(OTHER_PLACES, "mv::Mv::is");
-    assert_eq!(names, Some(("lt8".into(), "lt7".into())));
-    assert_eq!(renamed(OTHER_PLACES, "mv::Mv::within"), None);
-    let proof = "returns-else-n-lt8 c = below c.if-n-lt8.false lt80 (lt8)";
+    let names = Some(("lt8".into(), "lt7".into()));
+    assert_eq!(other_places(OTHER_PLACES, "if n < 7 {", PROOF), names);
     assert_eq!(
-        with(proof, "lt8", "lt7"),
-        "returns-else-n-lt7 c = below c.if-n-lt7.false lt80 (lt7)"
+        with(PROOF, "lt8", "lt7"),
+        "returns-else-n-lt7 c = below c.if-n-lt7.false c.if-n-lt3.true lt80 (lt7)"
     );
 }
 
 #[test]
-fn no_way_is_taken_for_another() {
-    let log = OTHER_PLACES.replace("`returns-else-n-lt7`, ", "");
-    assert_eq!(renamed(&log, "mv::Mv::is"), None);
+fn no_other_place_is_taken_for_it() {
+    // One that the proof has already, one that the change doesn't make, one of another way.
+    assert_eq!(other_places(OTHER_PLACES, "if n < 3 {", PROOF), None);
+    assert_eq!(other_places(OTHER_PLACES, "if n < 6 {", PROOF), None);
+    let other_way = OTHER_PLACES.replace("returns-else-n-lt7", "returns-then-n-lt7");
+    let other_way = other_way.replace("`if-n-lt7`", "`if-m-lt9`");
+    assert_eq!(other_places(&other_way, "if n < 7 {", PROOF), None);
 }
 
 #[test]
