@@ -2,8 +2,8 @@
 //! its contract shuts out.
 
 use crate::crates;
+use crate::definitions::heads;
 use crate::definitions::imports;
-use crate::definitions::names;
 use crate::definitions::Import;
 use crate::functions_of;
 use crate::wrap::wrap;
@@ -148,7 +148,7 @@ impl Book {
             .path
             .strip_prefix(&format!("{}::", file.module()))
             .unwrap_or(&function.path);
-        if !function.promises() && !function.answers {
+        if !function.promises() && (!function.answers() || function.does_io()) {
             return format!("- **`{path}`** prints: no contract can say what.\n");
         }
         if function.ensures.is_empty() {
@@ -172,7 +172,7 @@ impl Book {
                 wrong.len()
             ));
         }
-        if function.does_io() {
+        if wrong.is_empty() && function.does_io() {
             text.push_str("  - none: no contract can say what is read or printed\n");
         }
         wrong
@@ -181,33 +181,60 @@ impl Book {
         text
     }
 
-    /// The wrong programs of a function: those that change it, and those that stand for it.
+    /// The wrong programs of a function: those that change it, and those that stand for it, also by what it hands on
+    /// to.
     fn wrong(&self, library: &Crate, function: &Function) -> Vec<String> {
-        let own = (library.name.clone(), function.path.clone());
+        let mut own = vec![(library.name.clone(), function.path.clone())];
+        own.extend(self.handed_on(function));
         let mut told = Vec::new();
         for (other, wrong) in &self.libraries {
-            let is_here = other.name == library.name;
             for one in wrong {
-                let is_in = is_here && one.function.as_ref() == Some(&function.path);
-                let stands = |path: &String| self.meant(&other.name, path).as_ref() == Some(&own);
-                if is_in {
-                    told.push(format!("{}: {}", one.name, one.words));
-                } else if one.stands_for.iter().any(stands) {
+                let changes = one
+                    .function
+                    .as_ref()
+                    .map(|path| (other.name.clone(), path.clone()));
+                let mut stands = one
+                    .stands_for
+                    .iter()
+                    .filter_map(|path| self.meant(&other.name, path));
+                let said = format!("{}: {}", one.name, one.words);
+                if changes.as_ref() == own.first() {
+                    told.push(said);
+                } else if changes.is_some_and(|path| own.contains(&path))
+                    || stands.any(|path| own.contains(&path))
+                {
                     let place = one
                         .function
                         .as_deref()
                         .or(one.definition.as_deref())
                         .unwrap_or(&one.file);
-                    let before = if is_here {
+                    let before = if other.name == library.name {
                         String::new()
                     } else {
                         format!("{}::", other.name)
                     };
-                    told.push(format!("{}: {}, in `{before}{place}`", one.name, one.words));
+                    told.push(format!("{said}, in `{before}{place}`"));
                 }
             }
         }
         told
+    }
+
+    /// The function of another crate that does all the work of one, if its body is nothing but a call of it.
+    fn handed_on(&self, function: &Function) -> Option<(String, String)> {
+        let (called, rest) = function
+            .body
+            .trim_start_matches('{')
+            .trim()
+            .split_once('(')?;
+        let inside = rest
+            .trim_end()
+            .strip_suffix('}')?
+            .trim_end()
+            .strip_suffix(')')?;
+        let (name, path) = called.split_once("::")?;
+        let called = (name.to_string(), path.to_string());
+        (!inside.contains(';') && self.public.contains(&called)).then_some(called)
     }
 }
 
@@ -224,7 +251,7 @@ pub fn cited(clauses: &[String], imports: &[Import]) -> String {
     let mut by_file: Vec<(&str, Vec<&str>)> = Vec::new();
     let mut plain = Vec::new();
     for fact in clauses.iter().flat_map(|clause| facts(clause)) {
-        let own: Vec<&Import> = names(&fact)
+        let own: Vec<&Import> = heads(&fact)
             .filter_map(|name| imports.iter().find(|import| import.name == name))
             .collect();
         if own.is_empty() {
@@ -255,13 +282,11 @@ pub fn cited(clauses: &[String], imports: &[Import]) -> String {
     all.join("; ")
 }
 
-/// The facts of a clause: what stands in its brackets, taken apart at each `×` that stands in no others.
+/// The facts of a clause: what stands in it, taken apart at each `×` that stands in no brackets.
 fn facts(clause: &str) -> Vec<String> {
-    let inside = clause.split_once('⌜').map_or(clause, |(_, rest)| rest);
-    let inside = inside.rsplit_once('⌝').map_or(inside, |(rest, _)| rest);
     let mut facts = vec![String::new()];
     let mut depth = 0;
-    for c in inside.chars() {
+    for c in clause.chars() {
         match c {
             '(' | '{' => depth += 1,
             ')' | '}' => depth -= 1,

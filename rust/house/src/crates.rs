@@ -12,6 +12,8 @@ use std::path::PathBuf;
 
 pub struct Crate {
     pub name: String,
+    /// What it exports is linked to C and Rust, and no other crate uses it.
+    pub is_for_c: bool,
     /// Those that it may use.
     pub uses: Vec<String>,
     pub(crate) folder: PathBuf,
@@ -33,7 +35,7 @@ pub fn all() -> Vec<Crate> {
     all
 }
 
-/// Those that other crates use; the rest are programs.
+/// Those whose functions are called from elsewhere; the rest are programs.
 pub fn libraries() -> Vec<Crate> {
     let mut all = all();
     all.retain(Crate::is_library);
@@ -43,8 +45,10 @@ pub fn libraries() -> Vec<Crate> {
 fn listed(line: &str) -> Option<Crate> {
     let line = line.split('#').next().unwrap_or_default();
     let (name, uses) = line.split_once(':')?;
+    let (name, kind) = name.split_once(' ').unwrap_or((name, ""));
     Some(Crate {
         name: name.into(),
+        is_for_c: kind == "staticlib",
         uses: uses.split_whitespace().map(String::from).collect(),
         folder: root().join("crates").join(name),
     })

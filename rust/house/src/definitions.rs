@@ -1,5 +1,6 @@
 //! Definitions that clauses cite, by their names.
 
+use crate::root;
 use crate::Crate;
 use crate::File;
 use crate::Function;
@@ -12,18 +13,21 @@ pub struct Import {
     pub file: String,
 }
 
-/// Those behind `ghost use Rattle·`.
+/// Those behind `ghost use Rattle.`, from the crates of the repository.
 pub fn imports(source: &str) -> Vec<Import> {
     let mut all = Vec::new();
-    for rest in source.split("ghost use Rattle·").skip(1) {
+    for rest in source.split("ghost use Rattle.").skip(1) {
         let Some((path, names)) = rest.split_once(".{") else {
             continue;
         };
+        let Some((library, path)) = path.split_once(".specs.") else {
+            continue;
+        };
+        if !root().join("crates").join(library).is_dir() {
+            continue;
+        }
         let names = names.split('}').next().unwrap_or_default();
-        let file = path
-            .replacen("·specs", "", 1)
-            .replacen(".specs.", "/", 1)
-            .replace('.', "/");
+        let file = format!("{library}/{}", path.replace('.', "/"));
         all.extend(names.split(',').map(|name| Import {
             name: name.trim().into(),
             file: file.clone(),
@@ -32,11 +36,20 @@ pub fn imports(source: &str) -> Vec<Import> {
     all
 }
 
-/// The names in a clause or a definition, among them each part of a name with dots. What stands behind a dot
-/// alone is a field.
+/// The words of a clause or a definition. What stands behind a dot alone is a field of what is in brackets.
+fn words(text: &str) -> impl Iterator<Item = &str> {
+    text.split(|c: char| c.is_whitespace() || "(){},;«»".contains(c))
+        .filter(|word| !word.is_empty() && !word.starts_with('.'))
+}
+
+/// The names in a clause, without the fields of what they name.
+pub fn heads(text: &str) -> impl Iterator<Item = &str> {
+    words(text).filter_map(|word| word.split('.').next())
+}
+
+/// The names in a clause or a definition, among them each part of a name with dots.
 pub fn names(text: &str) -> impl Iterator<Item = &str> {
-    text.split(|c: char| c.is_whitespace() || "(){},;⌜⌝«»".contains(c))
-        .filter(|word| !word.starts_with('.'))
+    words(text)
         .flat_map(|word| word.split('.'))
         .filter(|name| !name.is_empty())
 }

@@ -6,10 +6,10 @@
 
 use crate::definitions;
 use crate::functions_of;
+use crate::prover::Texts;
 use crate::Crate;
 use crate::File;
 use crate::Function;
-use std::collections::BTreeMap;
 
 pub struct Wrong {
     pub name: String,
@@ -19,6 +19,9 @@ pub struct Wrong {
     pub edit: String,
     /// The file that it changes.
     pub file: String,
+    /// The text that it takes away there, and what it puts for it.
+    pub old: String,
+    pub new: String,
     /// How often its old text stands there, once those before it in the edit are applied.
     pub places: usize,
     /// It changes that text.
@@ -37,7 +40,7 @@ pub fn of(library: &Crate, edit: &File) -> Vec<Wrong> {
         .trim_start_matches("must-fail/")
         .trim_end_matches(".edit");
     let mut all: Vec<Wrong> = Vec::new();
-    let mut texts: BTreeMap<String, String> = BTreeMap::new();
+    let mut texts = Texts::new();
     let (mut file, mut old) = (String::new(), String::new());
     let (mut name, mut words, mut stands_for) = (stem.to_string(), String::new(), Vec::new());
     for line in edit.text.lines() {
@@ -62,6 +65,8 @@ pub fn of(library: &Crate, edit: &File) -> Vec<Wrong> {
                 words: words.clone(),
                 edit: stem.into(),
                 file: file.clone(),
+                old: old.clone(),
+                new: new.into(),
                 places: place.times,
                 changes: old != new,
                 function: place.function,
@@ -71,6 +76,18 @@ pub fn of(library: &Crate, edit: &File) -> Vec<Wrong> {
         }
     }
     all
+}
+
+/// The files that wrong programs change, with all of these applied.
+pub fn applied<'a>(library: &Crate, wrong: impl IntoIterator<Item = &'a Wrong>) -> Texts {
+    let mut texts = Texts::new();
+    for one in wrong {
+        let text = texts
+            .entry(one.file.clone())
+            .or_insert_with(|| crate::read(&library.folder.join(&one.file)));
+        *text = text.replacen(&one.old, &one.new, 1);
+    }
+    texts
 }
 
 /// Where a text stands in a file.

@@ -80,8 +80,22 @@ fn sentence(text: &str) -> &str {
         .map_or(text, |at| &text[..=at])
 }
 
-/// In order of their paths; none where there is no such folder.
+/// What proves a single function.
+pub const OF_A_FUNCTION: [&str; 3] = ["Answers.antt", "Invariants.antt", "Proof.antt"];
+
+/// Without those that prove a single function.
 pub fn below(root: &Path, folder: &str) -> Vec<File> {
+    let mut files = all_below(root, folder);
+    files.retain(|file| {
+        !OF_A_FUNCTION
+            .iter()
+            .any(|name| file.path.ends_with(&format!("/{name}")))
+    });
+    files
+}
+
+/// In order of their paths; none where there is no such folder.
+pub fn all_below(root: &Path, folder: &str) -> Vec<File> {
     let mut names: Vec<String> = fs::read_dir(root.join(folder))
         .into_iter()
         .flatten()
@@ -90,8 +104,7 @@ pub fn below(root: &Path, folder: &str) -> Vec<File> {
         .collect();
     names.sort();
     let files = |name: &String| match format!("{folder}/{name}") {
-        path if root.join(&path).is_dir() => below(root, &path),
-        _ if name == "Proof.antt" => Vec::new(),
+        path if root.join(&path).is_dir() => all_below(root, &path),
         path => vec![File {
             text: read(&root.join(&path)),
             path,

@@ -6,8 +6,8 @@ pub struct Function {
     /// In its crate: modules, the type whose function it is, its name.
     pub path: String,
     pub public: bool,
-    /// It gives something back.
-    pub answers: bool,
+    /// The type of what it gives back, if it does.
+    pub result: String,
     pub requires: Vec<String>,
     pub ensures: Vec<String>,
     pub body: String,
@@ -21,14 +21,19 @@ impl Function {
         self.path.rsplit("::").next().unwrap_or(&self.path)
     }
 
+    /// It gives something back.
+    pub fn answers(&self) -> bool {
+        !self.result.is_empty()
+    }
+
     /// It has a contract.
     pub fn promises(&self) -> bool {
         !self.requires.is_empty() || !self.ensures.is_empty()
     }
 
-    /// It reads or prints, by the functions of C.
+    /// It reads or prints.
     pub fn does_io(&self) -> bool {
-        self.body.contains("io::")
+        self.result.starts_with("io::")
     }
 
     /// How many lines its body has.
@@ -81,7 +86,7 @@ fn function(module: &str, lines: &[&str], first: usize) -> Function {
     Function {
         path: names.join("::"),
         public: start.starts_with("pub fn") || start.starts_with("pub extern"),
-        answers: head.answers,
+        result: head.result,
         requires: head.requires,
         ensures: head.ensures,
         body: text[head.end..].into(),
@@ -93,7 +98,7 @@ fn function(module: &str, lines: &[&str], first: usize) -> Function {
 /// What stands before a function's body.
 #[derive(Default)]
 struct Head {
-    answers: bool,
+    result: String,
     requires: Vec<String>,
     ensures: Vec<String>,
     /// Where the body begins.
@@ -114,18 +119,29 @@ impl Head {
                     .join(" ")
             };
             let before = text[at..open].trim_end();
-            head.answers |= before.contains("->");
-            if before.ends_with("requires") {
-                head.requires.push(inside());
-            } else if before.ends_with("ensures") {
-                head.ensures.push(inside());
-            } else {
-                head.end = open;
-                return head;
+            if let Some((_, result)) = before.split_once("-> ") {
+                let words = result.split_whitespace();
+                let words = words.take_while(|word| !["requires", "ensures"].contains(word));
+                head.result = words.collect::<Vec<_>>().join(" ");
+            }
+            match clause(before) {
+                Some("requires") => head.requires.push(inside()),
+                Some(_) => head.ensures.push(inside()),
+                None => {
+                    head.end = open;
+                    return head;
+                }
             }
             at = close + 1;
         }
     }
+}
+
+/// The kind of the clause whose brace comes next. It may have a name of its own.
+fn clause(before: &str) -> Option<&str> {
+    let last = before.split_whitespace().rev().take(2);
+    last.into_iter()
+        .find(|word| ["requires", "ensures"].contains(word))
 }
 
 /// Where the brace is closed that a text begins with.

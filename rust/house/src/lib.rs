@@ -10,7 +10,9 @@ mod edits;
 mod files;
 mod functions;
 mod lists;
+mod prover;
 mod refusals;
+mod trials;
 mod wrap;
 
 use std::fs;
@@ -31,7 +33,12 @@ pub use functions::functions_of;
 pub use functions::Function;
 pub use lists::architecture;
 pub use lists::by_hand;
+pub use prover::build;
+pub use prover::Copy;
 pub use refusals::is_refused;
+pub use refusals::renamed;
+pub use refusals::with;
+pub use trials::tried;
 pub use wrap::wrap;
 
 /// The widest line of a document.

@@ -76,7 +76,11 @@ fn listed(crates: &[Crate], faults: &mut Vec<String>) -> String {
             names if names.is_empty() => String::new(),
             names => format!(" On {names}."),
         };
-        let kind = if one.is_library() { "" } else { " (program)" };
+        let kind = match one.is_library() {
+            false => " (program)",
+            true if one.is_for_c => " (static library)",
+            true => "",
+        };
         text.push_str(&wrap(
             "- ",
             &format!("**{}**{kind}: {says}{stands_on}", one.name),

@@ -1,30 +1,133 @@
 //! What the prover said of a wrong program.
 
+use crate::files::OF_A_FUNCTION;
 use crate::Wrong;
+use std::cmp::Reverse;
+use std::collections::BTreeMap;
+use std::collections::BTreeSet;
 
 /// What is said where a proof file names something that the changed code hasn't.
-const MISFITS: [&str; 2] = ["that can be named from here", "has no field"];
+const MISFITS: [&str; 3] = [
+    "that can be named from here",
+    "has no field",
+    "is not in scope",
+];
 
 /// What a loop keeps and what falls in it: they are about the code's variables, and say nothing of the
 /// contract.
-const LOOPS: [&str; 2] = ["Inv-", "μ-"];
+const LOOPS: [&str; 2] = ["invariant-", "decreases-"];
+
+/// What is said of a function where a fact fails that needs no answer of its own.
+const UNPROVED: &str = "`search` did not prove";
 
 /// A fact that the proof files and the code agree on fails: in the function that is changed, or, where a
 /// definition is, in a file of laws. A definition that is alone in its edit may fail anywhere.
 pub fn is_refused(log: &str, library: &str, wrong: &Wrong, is_alone: bool) -> bool {
     let errors = errors(log);
     let Some(function) = &wrong.function else {
-        return errors.iter().any(Fault::is_of_a_law) || (is_alone && !errors.is_empty());
+        let is_shown = |error: &Fault| error.is_fact() && error.fits();
+        let is_left = |line: &str| line.starts_with("fn ") && line.contains(UNPROVED);
+        return errors.iter().any(Fault::is_of_a_law)
+            || (is_alone && (errors.iter().any(is_shown) || log.lines().any(is_left)));
     };
-    let file = format!("/proofs/{}/Proof.antt:", function.replace("::", "/"));
     let own: Vec<&Fault> = errors
         .iter()
-        .filter(|error| error.place.contains(&file))
+        .filter(|error| error.is_of(function))
         .collect();
-    let unproved = format!("fn {library}::{function}: no proof");
-    let is_left = |line: &str| line.starts_with(&unproved) && line.contains("does not close");
-    (own.iter().any(|error| error.is_fact()) && own.iter().all(|error| error.fits()))
-        || log.lines().any(is_left)
+    let unproved = format!("fn {library}::{function}: no proof: ");
+    let is_left = |line: &str| line.starts_with(&unproved) && line.contains(UNPROVED);
+    own.iter().all(|error| error.fits())
+        && (own.iter().any(|error| error.is_fact()) || log.lines().any(is_left))
+}
+
+/// What in the names of a changed function's places its proof files have and its code has no more, and what stands for
+/// it now. A place is named by the words of the code there, so where these are changed, it has another name; what has
+/// to be proved of it may be as before. The new name comes from what the wrong program puts into the code, and the
+/// proof files have it nowhere.
+pub fn renamed(log: &str, wrong: &Wrong, proofs: &[String]) -> Option<(String, String)> {
+    let function = wrong.function.as_ref()?;
+    let errors = errors(log);
+    let own = errors.iter().filter(|error| error.is_of(function));
+    let mut found: BTreeMap<(String, String), usize> = BTreeMap::new();
+    for (missing, named) in own.filter_map(|error| missed(log, &error.said)) {
+        let pairs: BTreeSet<_> = named.iter().filter_map(|new| apart(missing, new)).collect();
+        for pair in pairs {
+            *found.entry(pair).or_default() += 1;
+        }
+    }
+    let is_free = |name: &str| proofs.iter().all(|text| with(text, name, "") == *text);
+    let fits = |(old, new): &(String, String)| {
+        is_free(new) && is_written(old, &wrong.old) && is_written(new, &wrong.new)
+    };
+    let found = found.into_iter().filter(|(pair, _)| fits(pair));
+    let best = found.max_by_key(|((old, new), times)| (*times, Reverse(old.len() + new.len())));
+    best.map(|(pair, _)| pair)
+}
+
+/// A name that is missing, and such as are there.
+fn missed<'a>(log: &'a str, said: &'a str) -> Option<(&'a str, Vec<&'a str>)> {
+    if let Some((_, rest)) = said.split_once("has no field `") {
+        let (_, named) = rest.split_once("the fields that can be named here are ")?;
+        return Some((rest.split('`').next()?, quoted(named)));
+    }
+    let (_, rest) = said.split_once("has no `")?;
+    let missing = rest.split('`').next()?;
+    let words = format!("has no `{missing}`; rattle asks for ");
+    let asked = log.lines().find_map(|line| line.split_once(&words));
+    Some((missing, quoted(asked?.1)))
+}
+
+fn quoted(text: &str) -> Vec<&str> {
+    text.split('`').skip(1).step_by(2).collect()
+}
+
+/// Whether all that a run of parts of a name is made of stands in the code: the names and numbers, where an operator is
+/// a word before its number.
+fn is_written(name: &str, code: &str) -> bool {
+    let is_word = |c: char| c.is_alphanumeric() || c == '_';
+    let written: BTreeSet<&str> = code.split(|c: char| !is_word(c)).collect();
+    let is_there = |part: &str| {
+        let number = part.trim_start_matches(|c: char| !c.is_ascii_digit());
+        written.contains(part) || (!number.is_empty() && written.contains(number))
+    };
+    name.split('-').all(is_there)
+}
+
+/// The text with one name, or a run of parts of names, for another.
+pub fn with(text: &str, old: &str, new: &str) -> String {
+    let is_part = |c: char| c.is_alphanumeric() || c == '_' || c == '\'';
+    let mut told = String::new();
+    let mut at = 0;
+    for (found, _) in text.match_indices(old) {
+        let end = found + old.len();
+        if found < at || text[..found].ends_with(is_part) || text[end..].starts_with(is_part) {
+            continue;
+        }
+        told.push_str(&text[at..found]);
+        told.push_str(new);
+        at = end;
+    }
+    told + &text[at..]
+}
+
+/// Parts of a name that tell which way was taken.
+const WAYS: [&str; 4] = ["then", "else", "is", "not"];
+
+/// In what two names differ, in whole parts, none of which tells a way.
+fn apart(old: &str, new: &str) -> Option<(String, String)> {
+    let (mut old, mut new): (Vec<&str>, Vec<&str>) =
+        (old.split('-').collect(), new.split('-').collect());
+    while !old.is_empty() && old.first() == new.first() {
+        old.remove(0);
+        new.remove(0);
+    }
+    while !old.is_empty() && old.last() == new.last() {
+        old.pop();
+        new.pop();
+    }
+    let is_way = |part: &&str| WAYS.contains(part);
+    let is_place = !old.is_empty() && !new.is_empty() && !old.iter().chain(&new).any(is_way);
+    is_place.then(|| (old.join("-"), new.join("-")))
 }
 
 /// Where something was refused, what it was, and what was said of it.
@@ -35,9 +138,18 @@ struct Fault {
 }
 
 impl Fault {
+    fn is_of(&self, function: &str) -> bool {
+        let folder = format!("proofs/{}/", function.replace("::", "/"));
+        OF_A_FUNCTION
+            .iter()
+            .any(|file| self.place.contains(&format!("{folder}{file}:")))
+    }
+
     /// What only follows from another refusal shows nothing.
     fn is_fact(&self) -> bool {
-        !self.name.ends_with("-spec") && !self.said.contains("was not admitted")
+        !self.name.is_empty()
+            && !self.said.contains("was not admitted")
+            && !self.said.contains("was rejected")
     }
 
     /// Nor does a proof file that no longer fits the code.
@@ -48,7 +160,10 @@ impl Fault {
 
     /// A law of definitions, or a claim that stands beside them: no function's code or contract is part of it.
     fn is_of_a_law(&self) -> bool {
-        let is_law = self.place.contains("/proofs/") && !self.place.contains("/Proof.antt:");
+        let is_law = self.place.contains("/proofs/")
+            && !OF_A_FUNCTION
+                .iter()
+                .any(|file| self.place.contains(&format!("/{file}:")));
         (is_law || self.place.contains("/specs/")) && self.is_fact() && self.fits()
     }
 }
@@ -58,8 +173,11 @@ fn errors(log: &str) -> Vec<Fault> {
     let mut errors: Vec<Fault> = Vec::new();
     let mut goes_on = false;
     for line in log.lines() {
-        if let Some((place, rest)) = line.split_once(": error: `") {
-            let (name, said) = rest.split_once('`').unwrap_or((rest, ""));
+        if let Some((place, rest)) = line.split_once(": error: ") {
+            let named = rest
+                .strip_prefix('`')
+                .and_then(|rest| rest.split_once("`: "));
+            let (name, said) = named.unwrap_or(("", rest));
             errors.push(Fault {
                 place: place.into(),
                 name: name.into(),

@@ -113,6 +113,28 @@ fn broken_beside(library: &Crate, definition: &Wrong, beside: &[&Wrong]) -> Vec<
     beside.iter().filter(is_broken).map(told).collect()
 }
 
+/// What is exported to C hands on to a function of that name, and promises and requires what that one does.
+#[test]
+fn what_c_calls_has_the_clauses_of_what_does_the_work() {
+    let mut faults = Vec::new();
+    let (for_c, others): (Vec<Crate>, Vec<Crate>) = libraries()
+        .into_iter()
+        .partition(|library| library.is_for_c);
+    let does_the_work: Vec<_> = others.iter().flat_map(Crate::functions).collect();
+    for function in for_c.iter().flat_map(Crate::functions) {
+        let is_same = |other: &&house::Function| {
+            other.path == function.path
+                && other.requires == function.requires
+                && other.ensures == function.ensures
+                && other.result == function.result
+        };
+        if !does_the_work.iter().any(|other| is_same(&other)) {
+            faults.push(format!("{} promises something else", function.path));
+        }
+    }
+    none(faults);
+}
+
 #[test]
 fn no_function_is_long() {
     let mut faults = Vec::new();

@@ -17,17 +17,19 @@ fn file(path: &str, text: &str) -> File {
 const SOURCE: &str = "\
 // Places along one axis. Only the functions here
 // cross over.
-ghost use mathlib.Core.Path.{_≡_};
-ghost use Rattle·cells·specs.specs.around.Around.{nearOf, went};
-ghost use Rattle·stack.specs.Numbers.{Held};
+#![tactic(auto)]
+ghost use Rattle.std.specs.Prelude.{◌≡◌, length};
+ghost use Rattle.cells.specs.around.Around.{near_of, went};
+ghost use Rattle.stack.specs.Numbers.{Held};
 
 pub struct Pos(pub usize);
 
 impl Pos {
     pub fn near(self, s: &mut [u64]) -> Pos
-        requires { ⌜ Held (now s) × (length (now s) ≡ 20) ⌝ }
-        ensures { λ r. ⌜ (r .went ≤ 16) × went r
-            (record { a = 1 }) ≡ nearOf self ⌝ }
+        requires { Held s.old × (length s.old ≡ 20) }
+        ensures value { (result.went ≤ 16) × went result
+            (record { a = 1 }) ≡ near_of self }
+        ensures s_after { s.new ≡ s.old }
     {
         let at = Pos { at: 1 };
         at
@@ -36,6 +38,10 @@ impl Pos {
 
 fn show(n: u8) {
     number(n);
+}
+
+pub fn tell(rt: &impl Print, n: u8) -> io::Result<()> {
+    number(rt, n)
 }
 ";
 
@@ -66,19 +72,24 @@ fn a_file_of_names_is_a_list() {
 #[test]
 fn a_function_has_its_clauses_and_its_body() {
     let all = functions_of(&file("src/a/pos.rt", SOURCE));
-    let [near, show] = &all[..] else {
-        panic!("two functions");
+    let [near, show, tell] = &all[..] else {
+        panic!("three functions");
     };
     assert_eq!((&*near.path, near.name()), ("a::pos::Pos::near", "near"));
-    assert!(near.public && near.answers && near.promises());
-    assert_eq!(near.requires, ["⌜ Held (now s) × (length (now s) ≡ 20) ⌝"]);
+    assert!(near.public && near.promises() && !near.does_io());
+    assert_eq!(near.result, "Pos");
+    assert_eq!(near.requires, ["Held s.old × (length s.old ≡ 20)"]);
     assert_eq!(
         near.ensures,
-        ["λ r. ⌜ (r .went ≤ 16) × went r (record { a = 1 }) ≡ nearOf self ⌝"]
+        [
+            "(result.went ≤ 16) × went result (record { a = 1 }) ≡ near_of self",
+            "s.new ≡ s.old"
+        ]
     );
     assert_eq!(near.lines(), 4);
-    assert_eq!((near.first, near.last), (9, 16));
-    assert!(!show.public && !show.answers && !show.promises());
+    assert_eq!((near.first, near.last), (10, 18));
+    assert!(!show.public && !show.answers() && !show.promises());
+    assert!(tell.answers() && tell.does_io() && !tell.promises());
 }
 
 #[test]
@@ -87,11 +98,11 @@ fn a_contract_cites_its_definitions_and_its_plain_facts() {
     let near = &functions_of(&file("src/a/pos.rt", SOURCE))[0];
     assert_eq!(
         cited(&near.ensures, &imports),
-        "`went`, `nearOf` (cells/around/Around); `r .went ≤ 16`"
+        "`went`, `near_of` (cells/around/Around); `result.went ≤ 16`; `s.new ≡ s.old`"
     );
     assert_eq!(
         cited(&near.requires, &imports),
-        "`Held` (stack/Numbers); `length (now s) ≡ 20`"
+        "`Held` (stack/Numbers); `length s.old ≡ 20`"
     );
     assert_eq!(cited(&[], &imports), "nothing");
 }
