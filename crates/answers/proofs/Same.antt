@@ -33,7 +33,7 @@ use Rattle.search.specs.declared.candidates.plan.Listing.{Listing}
 use Rattle.search.specs.declared.candidates.plan.Plan.{Plan}
 use Rattle.search.specs.Find.{Finding, SearchOutcome, refused, got, find_of}
 use Rattle.search.specs.candidates.Each.{map_from}
-use Rattle.search.specs.candidates.Plan.{recorded, eight, plan_for, lacking, found_in, plan_of, taken, filled, slot_of, stored}
+use Rattle.search.specs.candidates.Plan.{recorded, eight, plan_for, lacking, found_in, plan_of, taken, filled, slot_of}
 use Rattle.search.specs.lent_bytes.Store.{candidate_patches, candidates_script, fill_patch, fills_script}
 use Rattle.search.specs.lent_bytes.Whole.{stack_script, found_script}
 use Rattle.search.proofs.lent_bytes.Stored.{four_same}

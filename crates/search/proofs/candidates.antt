@@ -1,4 +1,3 @@
 -- Laws of the candidate search over lent records.
 pub mod Eaches
-pub mod LentArray
 pub mod Plans

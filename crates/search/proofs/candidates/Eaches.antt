@@ -1,4 +1,4 @@
--- The first elements of a list replaced one by one: how long that is, one more of them, each of them.
+-- The first elements of a list replaced one by one: one more of them, each of them.
 -- Assumes nothing.
 use mathlib.Core.Path.{◌≡◌, refl, sym, ap, ◌∙◌}
 use Prim.Native.Nat.{ℕ, zero, suc, ◌+◌, ◌≤◌, ◌<◌}
@@ -12,12 +12,6 @@ module _ {X : Type 0} (f : X → ℕ → X) (d : X) where
   unfolding map_from
   map_from-none [] i = refl
   map_from-none (x ∷ xs) i = refl
-
-  pub length-map_from : (xs : List X) (i k : ℕ) → length (map_from f xs i k) ≡ length xs
-  unfolding map_from
-  length-map_from [] i k = refl
-  length-map_from (x ∷ xs) i zero = refl
-  length-map_from (x ∷ xs) i (suc k) = ap suc (length-map_from xs (suc i) k)
 
   -- element k of that is replaced next
   next-from : (xs : List X) (i k : ℕ) → k < length xs → map_from f xs i (suc k) ≡ set (map_from f xs i k) k (f (get_or (map_from f xs i k) k d) (k + i))

@@ -1,7 +1,6 @@
 -- A neighbour's lists in the extra search (7.10.2.13), and what a single search makes of them.
-use Rattle.std.specs.Prelude.{ℕ, ◌-◌, Bool, List, [], ◌∷◌, eqb, pos, neg_ℤ, nat_abs, get_or}
+use Rattle.std.specs.Prelude.{ℕ, ◌-◌, List, [], ◌∷◌, eqb, neg_ℤ, nat_abs, get_or}
 use Rattle.ground.specs.Pick.{pick}
-use Rattle.ground.specs.Sign.{from_to}
 use Rattle.vector.specs.declared.mv.Mv.{Mv}
 use Rattle.vector.specs.Vector.{zero, both}
 use Rattle.cells.specs.declared.cell.Ref.{Ref}

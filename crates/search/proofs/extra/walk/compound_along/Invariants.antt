@@ -1,0 +1,13 @@
+-- `search::extra::walk::compound_along` meets its contract.
+use Prim.Native.Nat.{◌-◌}
+use Rattle.search.specs.Code.Pool.{pools_of}
+use Rattle.search.specs.extra.Walk.{compound_on}
+use Rattle.search.proofs.extra.Walks.{line, Goes₂}
+use Rattle.search.proofs.extra.walk.compound_along.Given as goal
+
+abbrev pub invariant-loop-x : goal.invariant-loop-x
+invariant-loop-x l =
+    Goes₂ (line l.tile l.recs l.total l.l) l.l.down l.limit.0 l.biases l.refs (compound_on (line l.tile l.recs l.total l.l) l.l.down l.limit.0 l.biases l.refs l.limit.0 0 (pools_of l.initial.t)) l.x (pools_of l.t)
+
+abbrev pub decreases-loop-x : goal.decreases-loop-x
+decreases-loop-x l = l.limit.0 - l.x
