@@ -37,12 +37,7 @@ fn put_steps(s: &mut [u8], batch: Batch)
 
 // Plays a capture's jobs in list order over proj and saved, which are blank first. The answer is 0,
 // and each job's steps are laid over the start of steps, or a refusal, and then nothing is written.
-pub fn jaskkovir_play(
-    file: &[u8],
-    proj: &mut [u8],
-    saved: &mut [u8],
-    steps: &mut [u8],
-) -> u8
+pub fn jaskkovir_play(file: &[u8], proj: &mut [u8], saved: &mut [u8], steps: &mut [u8]) -> u8
     ensures value { result ≡ shown_answer file.now proj.old saved.old (length steps.old) }
     ensures proj_after { proj.new ≡ (shown_desk file.now proj.old saved.old (length steps.old)).proj }
     ensures saved_after { saved.new ≡ (shown_desk file.now proj.old saved.old (length steps.old)).saved }

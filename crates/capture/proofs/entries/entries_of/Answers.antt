@@ -6,6 +6,3 @@ use Rattle.capture.proofs.entries.entries_of.Goals as goal
 
 pub returns-then-file-eq0 : goal.returns-then-file-eq0
 returns-then-file-eq0 c = (sym (get_or-eq_default c.args.file.now 0 {n = 0} (omega (arith, c.if-file-eq0.true))), omega arith)
-
-pub returns : goal.returns
-returns c = (c.wide.ensures, omega (arith, c.wide.ensures, c.shared_slice_known-2-1.given 0))

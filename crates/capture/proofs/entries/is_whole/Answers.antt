@@ -1,11 +1,11 @@
 -- `capture::entries::is_whole` meets its contract.
-use borrow.Author.Tests.{ne_eqb}
+use Rattle.std.proofs.Common.{arith}
 use Rattle.capture.specs.File.{whole_body}
 use Rattle.capture.proofs.entries.is_whole.Goals as goal
 
 pub returns-then-is_field : goal.returns-then-is_field
 unfolding whole_body
-returns-then-is_field c = let r = c.in_default.in_default-own.rest in simp (ne_eqb _ 1 r.0.0.1, ne_eqb _ 2 r.0.1, ne_eqb _ 4 r.1, ← c.is_field.ensures, c.if-is_field.true)
+returns-then-is_field c = grind arith
 
 pub returns-in-1 : goal.returns-in-1
 unfolding whole_body
@@ -21,4 +21,4 @@ returns-in-4 c = rw c.in-4.is
 
 pub returns-else-is_field : goal.returns-else-is_field
 unfolding whole_body
-returns-else-is_field c = let r = c.in_default.in_default-own.rest in simp (ne_eqb _ 1 r.0.0.1, ne_eqb _ 2 r.0.1, ne_eqb _ 4 r.1, ← c.is_field.ensures, c.if-is_field.false)
+returns-else-is_field c = grind arith
