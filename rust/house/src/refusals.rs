@@ -1,6 +1,6 @@
 //! What the prover said of a wrong program.
 
-use crate::files::OF_A_FUNCTION;
+use crate::files::is_of_a_function;
 use crate::Wrong;
 use std::cmp::Reverse;
 use std::collections::BTreeMap;
@@ -138,11 +138,15 @@ struct Fault {
 }
 
 impl Fault {
+    /// The file's path.
+    fn file(&self) -> &str {
+        self.place.split(':').next().unwrap_or_default()
+    }
+
     fn is_of(&self, function: &str) -> bool {
-        let folder = format!("proofs/{}/", function.replace("::", "/"));
-        OF_A_FUNCTION
-            .iter()
-            .any(|file| self.place.contains(&format!("{folder}{file}:")))
+        let folder = format!("proofs/{}", function.replace("::", "/"));
+        let own = self.file().rsplit_once('/').map(|(own, _)| own);
+        is_of_a_function(self.file()) && own.is_some_and(|own| own.ends_with(&folder))
     }
 
     /// What only follows from another refusal shows nothing.
@@ -160,10 +164,7 @@ impl Fault {
 
     /// A law of definitions, or a claim that stands beside them: no function's code or contract is part of it.
     fn is_of_a_law(&self) -> bool {
-        let is_law = self.place.contains("/proofs/")
-            && !OF_A_FUNCTION
-                .iter()
-                .any(|file| self.place.contains(&format!("/{file}:")));
+        let is_law = self.place.contains("/proofs/") && !is_of_a_function(self.file());
         (is_law || self.place.contains("/specs/")) && self.is_fact() && self.fits()
     }
 }

@@ -148,4 +148,7 @@ fn a_definition_beside_others_is_refused_by_a_law() {
     assert!(is_refused(
         "./specs/Worked.antt:9:3: error: `worked`: the two types differ"
     ));
+    assert!(is_refused(
+        "./proofs/Answers.antt:9:3: error: `moved`: the two types differ"
+    ));
 }
