@@ -43,8 +43,14 @@ pub fn is_refused(log: &str, library: &str, wrong: &Wrong, is_alone: bool) -> bo
 /// What in the names of a changed function's places its proof files have and its code has no more, and what stands for
 /// it now. A place is named by the words of the code there, so where these are changed, it has another name; what has
 /// to be proved of it may be as before. The new name comes from what the wrong program puts into the code, and the
-/// proof files have it nowhere.
-pub fn renamed(log: &str, wrong: &Wrong, proofs: &[String]) -> Option<(String, String)> {
+/// proof files have it nowhere, or else by an earlier guess: of two places that are named alike and counted, either may
+/// have changed.
+pub fn renamed(
+    log: &str,
+    wrong: &Wrong,
+    proofs: &[String],
+    earlier: &[(String, String)],
+) -> Option<(String, String)> {
     let function = wrong.function.as_ref()?;
     let errors = errors(log);
     let own = errors.iter().filter(|error| error.is_of(function));
@@ -55,7 +61,10 @@ pub fn renamed(log: &str, wrong: &Wrong, proofs: &[String]) -> Option<(String, S
             *found.entry(pair).or_default() += 1;
         }
     }
-    let is_free = |place: &str| proofs.iter().all(|text| with(text, place, "") == *text);
+    let is_free = |place: &str| {
+        earlier.iter().any(|(_, new)| new == place)
+            || proofs.iter().all(|text| with(text, place, "") == *text)
+    };
     let fits = |(old, new): &(String, String)| {
         is_free(new) && is_written(old, new, &wrong.old) && is_written(new, old, &wrong.new)
     };
@@ -135,12 +144,16 @@ fn apart(old: &str, new: &str) -> Option<(String, String)> {
     (differ.next().is_none() && !is_way(&pair.0) && !is_way(&pair.1)).then_some(pair)
 }
 
-/// The text with another name for a place.
+/// The text with another name for a place. Where it has that name for another place, that one gets the first's.
 pub fn with(text: &str, old: &str, new: &str) -> String {
     let is_of_a_name = |c: char| is_of_a_word(c) || "-'".contains(c);
     let respelled = |name: &str| {
         let pieces = pieces(name).into_iter();
-        let pieces = pieces.map(|piece| if piece == old { new.into() } else { piece });
+        let pieces = pieces.map(|piece| match &piece {
+            piece if piece == old => new.into(),
+            piece if piece == new => old.into(),
+            _ => piece,
+        });
         pieces.collect::<Vec<String>>().join("-")
     };
     let mut told = String::new();

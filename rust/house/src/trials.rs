@@ -87,7 +87,10 @@ impl Trials<'_> {
             };
             let proofs: Vec<String> = self.proofs(function).into_values().collect();
             let known = self.names.entry(function.clone()).or_default();
-            if let Some(names) = renamed(log, one, &proofs).filter(|_| known.len() < MOST_NAMES) {
+            if known.len() == MOST_NAMES {
+                continue;
+            }
+            if let Some(names) = renamed(log, one, &proofs, known) {
                 known.push(names);
                 is_new = true;
             }

@@ -88,7 +88,7 @@ fn other_places(log: &str, new: &str, proof: &str) -> Option<(String, String)> {
         new: new.into(),
         ..wrong(Some("mv::Mv::is"))
     };
-    renamed(log, &wrong, &[proof.into()])
+    renamed(log, &wrong, &[proof.into()], &[])
 }
 
 const PROOF: &str = "returns-else-n-lt8 c = below c.if-n-lt8.false c.if-n-lt8-2.true (n-lt80 - m)";
@@ -114,7 +114,26 @@ fn a_place_of_two_names_has_them_both() {
         ..wrong(Some("mv::Mv::is"))
     };
     let names = Some(("n-le-MOST-2".into(), "n-le0".into()));
-    assert_eq!(renamed(&log, &wrong, &[]), names);
+    assert_eq!(renamed(&log, &wrong, &[], &[]), names);
+}
+
+/// Of two places that are named alike the second was taken for the changed one, and it is the first.
+#[test]
+fn the_other_of_two_places_is_tried_behind_the_one() {
+    let guess = ("n-lt8-2".to_string(), "n-lt7".to_string());
+    let proof = with(PROOF, &guess.0, &guess.1);
+    assert_eq!(other_places(OTHER_PLACES, "if n < 7 {", &proof), None);
+    let wrong = Wrong {
+        old: "if n < 8 {".into(),
+        new: "if n < 7 {".into(),
+        ..wrong(Some("mv::Mv::is"))
+    };
+    let names = renamed(OTHER_PLACES, &wrong, &[proof.clone()], &[guess]);
+    assert_eq!(names, Some(("n-lt8".into(), "n-lt7".into())));
+    assert_eq!(
+        with(&proof, "n-lt8", "n-lt7"),
+        "returns-else-n-lt7 c = below c.if-n-lt7.false c.if-n-lt8.true (n-lt80 - m)"
+    );
 }
 
 #[test]
