@@ -1,6 +1,6 @@
 /* Jaskkovir: reference motion vectors for AV1, for C.
  *
- * Link with target/staticlib/libjaskkovir.a, which `rust/library` makes; it needs only memcpy.
+ * Link with target/staticlib/libjaskkovir.a, which `rust/library` makes; it needs only memcpy and memset.
  *
  * Every function that answers uint8_t takes any numbers and any bytes, ends, and answers 0 or one of
  * the refusals below. A refusal writes nothing. A lent part is a pointer and its length in bytes; it
