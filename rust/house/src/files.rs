@@ -80,17 +80,19 @@ fn sentence(text: &str) -> &str {
         .map_or(text, |at| &text[..=at])
 }
 
-/// What proves a single function.
-pub const OF_A_FUNCTION: [&str; 3] = ["Answers.antt", "Invariants.antt", "Proof.antt"];
+/// What proves a single function has one of these names, and stands in that function's folder.
+const OF_A_FUNCTION: [&str; 3] = ["Answers.antt", "Invariants.antt", "Proof.antt"];
+
+/// Whether the file at a path in a crate proves a single function. One of that name right in proofs/ has laws.
+pub fn is_of_a_function(path: &str) -> bool {
+    let (folder, name) = path.rsplit_once('/').unwrap_or_default();
+    OF_A_FUNCTION.contains(&name) && !folder.ends_with("proofs")
+}
 
 /// Without those that prove a single function.
 pub fn below(root: &Path, folder: &str) -> Vec<File> {
     let mut files = all_below(root, folder);
-    files.retain(|file| {
-        !OF_A_FUNCTION
-            .iter()
-            .any(|name| file.path.ends_with(&format!("/{name}")))
-    });
+    files.retain(|file| !is_of_a_function(&file.path));
     files
 }
 

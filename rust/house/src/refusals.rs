@@ -1,6 +1,6 @@
 //! What the prover said of a wrong program.
 
-use crate::files::OF_A_FUNCTION;
+use crate::files::is_of_a_function;
 use crate::Wrong;
 use std::cmp::Reverse;
 use std::collections::BTreeMap;
@@ -55,9 +55,9 @@ pub fn renamed(log: &str, wrong: &Wrong, proofs: &[String]) -> Option<(String, S
             *found.entry(pair).or_default() += 1;
         }
     }
-    let is_free = |name: &str| proofs.iter().all(|text| with(text, name, "") == *text);
+    let is_free = |place: &str| proofs.iter().all(|text| with(text, place, "") == *text);
     let fits = |(old, new): &(String, String)| {
-        is_free(new) && is_written(old, &wrong.old) && is_written(new, &wrong.new)
+        is_free(new) && is_written(old, new, &wrong.old) && is_written(new, old, &wrong.new)
     };
     let found = found.into_iter().filter(|(pair, _)| fits(pair));
     let best = found.max_by_key(|((old, new), times)| (*times, Reverse(old.len() + new.len())));
@@ -81,53 +81,78 @@ fn quoted(text: &str) -> Vec<&str> {
     text.split('`').skip(1).step_by(2).collect()
 }
 
-/// Whether all that a run of parts of a name is made of stands in the code: the names and numbers, where an operator is
-/// a word before its number.
-fn is_written(name: &str, code: &str) -> bool {
-    let is_word = |c: char| c.is_alphanumeric() || c == '_';
-    let written: BTreeSet<&str> = code.split(|c: char| !is_word(c)).collect();
-    let is_there = |part: &str| {
+/// What stands for an operator in a name, by itself or before its number.
+const OPERATORS: [&str; 7] = ["lt", "le", "gt", "ge", "eq", "ne", "not"];
+
+/// Whether a place's name comes from the code that another's doesn't come from: all its words and numbers that the other
+/// hasn't stand there. A number behind all else counts places of one name.
+fn is_written(place: &str, other: &str, code: &str) -> bool {
+    let written: BTreeSet<&str> = code.split(|c: char| !is_of_a_word(c)).collect();
+    let others: BTreeSet<&str> = other.split('-').collect();
+    let parts: Vec<&str> = place.split('-').collect();
+    let is_there = |(at, part): (usize, &&str)| {
         let number = part.trim_start_matches(|c: char| !c.is_ascii_digit());
-        written.contains(part) || (!number.is_empty() && written.contains(number))
+        let is_count = 0 < at && at + 1 == parts.len() && number == *part;
+        is_count
+            || others.contains(part)
+            || OPERATORS.contains(part)
+            || written.contains(part)
+            || (!number.is_empty() && written.contains(number))
     };
-    name.split('-').all(is_there)
+    parts.iter().enumerate().all(is_there)
 }
 
-/// The text with one name, or a run of parts of names, for another.
-pub fn with(text: &str, old: &str, new: &str) -> String {
-    let is_part = |c: char| c.is_alphanumeric() || c == '_' || c == '\'';
-    let mut told = String::new();
-    let mut at = 0;
-    for (found, _) in text.match_indices(old) {
-        let end = found + old.len();
-        if found < at || text[..found].ends_with(is_part) || text[end..].starts_with(is_part) {
-            continue;
+fn is_of_a_word(c: char) -> bool {
+    c.is_alphanumeric() || c == '_'
+}
+
+/// Parts of a name that tell a way through the code. A place's name stands between them.
+const WAYS: [&str; 6] = ["if", "then", "else", "If", "Then", "Else"];
+
+/// A name taken apart: the ways, each where it stands, and what is between them.
+fn pieces(name: &str) -> Vec<String> {
+    let mut pieces: Vec<String> = Vec::new();
+    let mut is_place = false;
+    for part in name.split('-') {
+        match pieces.last_mut() {
+            Some(last) if is_place && !WAYS.contains(&part) => *last = format!("{last}-{part}"),
+            _ => pieces.push(part.into()),
         }
-        told.push_str(&text[at..found]);
-        told.push_str(new);
-        at = end;
+        is_place = !WAYS.contains(&part);
     }
-    told + &text[at..]
+    pieces
 }
 
-/// Parts of a name that tell which way was taken.
-const WAYS: [&str; 4] = ["then", "else", "is", "not"];
-
-/// In what two names differ, in whole parts, none of which tells a way.
+/// The place in which alone two names differ.
 fn apart(old: &str, new: &str) -> Option<(String, String)> {
-    let (mut old, mut new): (Vec<&str>, Vec<&str>) =
-        (old.split('-').collect(), new.split('-').collect());
-    while !old.is_empty() && old.first() == new.first() {
-        old.remove(0);
-        new.remove(0);
+    let (old, new) = (pieces(old), pieces(new));
+    if old.len() != new.len() {
+        return None;
     }
-    while !old.is_empty() && old.last() == new.last() {
-        old.pop();
-        new.pop();
+    let mut differ = old.into_iter().zip(new).filter(|(old, new)| old != new);
+    let pair = differ.next()?;
+    let is_way = |piece: &String| WAYS.contains(&&**piece);
+    (differ.next().is_none() && !is_way(&pair.0) && !is_way(&pair.1)).then_some(pair)
+}
+
+/// The text with another name for a place.
+pub fn with(text: &str, old: &str, new: &str) -> String {
+    let is_of_a_name = |c: char| is_of_a_word(c) || "-'".contains(c);
+    let respelled = |name: &str| {
+        let pieces = pieces(name).into_iter();
+        let pieces = pieces.map(|piece| if piece == old { new.into() } else { piece });
+        pieces.collect::<Vec<String>>().join("-")
+    };
+    let mut told = String::new();
+    let mut rest = text;
+    while let Some(at) = rest.find(is_of_a_name) {
+        let (before, name) = rest.split_at(at);
+        let end = name.find(|c| !is_of_a_name(c)).unwrap_or(name.len());
+        told.push_str(before);
+        told.push_str(&respelled(&name[..end]));
+        rest = &name[end..];
     }
-    let is_way = |part: &&str| WAYS.contains(part);
-    let is_place = !old.is_empty() && !new.is_empty() && !old.iter().chain(&new).any(is_way);
-    is_place.then(|| (old.join("-"), new.join("-")))
+    told + rest
 }
 
 /// Where something was refused, what it was, and what was said of it.
@@ -138,11 +163,15 @@ struct Fault {
 }
 
 impl Fault {
+    /// The file's path.
+    fn file(&self) -> &str {
+        self.place.split(':').next().unwrap_or_default()
+    }
+
     fn is_of(&self, function: &str) -> bool {
-        let folder = format!("proofs/{}/", function.replace("::", "/"));
-        OF_A_FUNCTION
-            .iter()
-            .any(|file| self.place.contains(&format!("{folder}{file}:")))
+        let folder = format!("proofs/{}", function.replace("::", "/"));
+        let own = self.file().rsplit_once('/').map(|(own, _)| own);
+        is_of_a_function(self.file()) && own.is_some_and(|own| own.ends_with(&folder))
     }
 
     /// What only follows from another refusal shows nothing.
@@ -160,10 +189,7 @@ impl Fault {
 
     /// A law of definitions, or a claim that stands beside them: no function's code or contract is part of it.
     fn is_of_a_law(&self) -> bool {
-        let is_law = self.place.contains("/proofs/")
-            && !OF_A_FUNCTION
-                .iter()
-                .any(|file| self.place.contains(&format!("/{file}:")));
+        let is_law = self.place.contains("/proofs/") && !is_of_a_function(self.file());
         (is_law || self.place.contains("/specs/")) && self.is_fact() && self.fits()
     }
 }

@@ -91,22 +91,37 @@ fn other_places(log: &str, new: &str, proof: &str) -> Option<(String, String)> {
     renamed(log, &wrong, &[proof.into()])
 }
 
-const PROOF: &str = "returns-else-n-lt8 c = below c.if-n-lt8.false c.if-n-lt3.true lt80 (lt8)";
+const PROOF: &str = "returns-else-n-lt8 c = below c.if-n-lt8.false c.if-n-lt8-2.true (n-lt80 - m)";
 
 #[test]
 fn a_place_has_the_name_that_its_code_gives_it() {
-    let names = Some(("lt8".into(), "lt7".into()));
+    let names = Some(("n-lt8".into(), "n-lt7".into()));
     assert_eq!(other_places(OTHER_PLACES, "if n < 7 {", PROOF), names);
     assert_eq!(
-        with(PROOF, "lt8", "lt7"),
-        "returns-else-n-lt7 c = below c.if-n-lt7.false c.if-n-lt3.true lt80 (lt7)"
+        with(PROOF, "n-lt8", "n-lt7"),
+        "returns-else-n-lt7 c = below c.if-n-lt7.false c.if-n-lt8-2.true (n-lt80 - m)"
     );
+}
+
+#[test]
+fn a_place_of_two_names_has_them_both() {
+    let log = OTHER_PLACES
+        .replace("n-lt8", "n-le-MOST-2")
+        .replace("n-lt7", "n-le0");
+    let wrong = Wrong {
+        old: "if n <= MOST {".into(),
+        new: "if n <= 0 {".into(),
+        ..wrong(Some("mv::Mv::is"))
+    };
+    let names = Some(("n-le-MOST-2".into(), "n-le0".into()));
+    assert_eq!(renamed(&log, &wrong, &[]), names);
 }
 
 #[test]
 fn no_other_place_is_taken_for_it() {
     // One that the proof has already, one that the change doesn't make, one of another way.
-    assert_eq!(other_places(OTHER_PLACES, "if n < 3 {", PROOF), None);
+    let other_proof = format!("{PROOF} c.if-n-lt7.true");
+    assert_eq!(other_places(OTHER_PLACES, "if n < 7 {", &other_proof), None);
     assert_eq!(other_places(OTHER_PLACES, "if n < 6 {", PROOF), None);
     let other_way = OTHER_PLACES.replace("returns-else-n-lt7", "returns-then-n-lt7");
     let other_way = other_way.replace("`if-n-lt7`", "`if-m-lt9`");
@@ -147,5 +162,8 @@ fn a_definition_beside_others_is_refused_by_a_law() {
     ));
     assert!(is_refused(
         "./specs/Worked.antt:9:3: error: `worked`: the two types differ"
+    ));
+    assert!(is_refused(
+        "./proofs/Answers.antt:9:3: error: `moved`: the two types differ"
     ));
 }
