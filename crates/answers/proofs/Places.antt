@@ -35,7 +35,7 @@ use Rattle.search.specs.extra.Pool as pools
 use Rattle.search.specs.extra.Walk.{Gathering, single_on, compound_on, on_gathering, on_read₂}
 use Rattle.search.specs.extra.Walk as walks
 use Rattle.search.specs.Extend.{extra_limit, single_where, single_extra, compound_where, completing, compound_extra, extra_of}
-use Rattle.answers.specs.Reads.{Place, touching, beyond, above-right, above-left, SamePlaces}
+use Rattle.answers.specs.Reads.{Place, touching, beyond, above_right, above_left, SamePlaces}
 
 -- a scan reads below its span's limit
 module _ (nb nb' : ℕ → NeighbourRead) (down : Bool) (q : Want) (p : Span) (some : 1 ≤ p.limit.0) (same : (i : ℕ) → i < p.limit.0 → nb i ≡ nb' i) where
@@ -109,7 +109,7 @@ module _ (read read' : ℕ → ℕ → NeighbourRead) (b : Site) (placed : Place
     -- the point above right is one of the places, decoded or not
     may-right : (decoded : Bool) → has_right b decoded ≡ true → Place b (row_of b + 4) (b.x.0 + b.w.0)
     unfolding has_right
-    may-right true h = above-right h
+    may-right true h = above_right h
     may-right false h = absurd (true≢false (sym h))
 
     pub near-all : (decoded : Bool) → near_all read b decoded q ≡ near_all read' b decoded q
@@ -131,7 +131,7 @@ module _ (read read' : ℕ → ℕ → NeighbourRead) (b : Site) (placed : Place
     far-all above left s =
         round-of 3 _ _ (omega arith) (omega arith)
         (round-of 2 _ _ (omega arith) (omega arith)
-        (λ i. on_scan (point-where (has_left b) (b.x.0 - 1) s above-left i) (λ t r. on t above left)))
+        (λ i. on_scan (point-where (has_left b) (b.x.0 - 1) s above_left i) (λ t r. on t above left)))
 
   -- the extra search stays below both limits
   below_both : (down : Bool) (x : ℕ) → x < extra_limit b → x < limit_of down b

@@ -18,8 +18,8 @@ pub data Place (b : Site) : ℕ → ℕ → Type 0 where
   touching : (down : Bool) (i : ℕ) → 1 ≤ depth_of down b → i < limit_of down b → Place b (entry_of (near_line down b) i) (col_of (near_line down b) i)
   beyond : (down : Bool) (n i : ℕ) → 2 ≤ n → n ≤ 3 → n ≤ depth_of down b → i < limit_of down b
       → Place b (entry_of (far_line down b n) i) (col_of (far_line down b n) i)
-  above-right : has_right b true ≡ true → Place b (row_of b + 4) (b.x.0 + b.w.0)
-  above-left : has_left b ≡ true → Place b (row_of b + 4) (b.x.0 - 1)
+  above_right : has_right b true ≡ true → Place b (row_of b + 4) (b.x.0 + b.w.0)
+  above_left : has_left b ≡ true → Place b (row_of b + 4) (b.x.0 - 1)
 
 -- A cell of the projection: in the block's own rows and columns of cells, and the three at its corners.
 pub data Spot (f : Field) (b : Site) : ℕ → Type 0 where
