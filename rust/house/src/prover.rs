@@ -61,7 +61,11 @@ impl Copy {
         tree(&library.folder, &self.folder(library), WORK);
         let mut words = vec!["check", "--jobs", "1"];
         words.extend(only.iter().flat_map(|function| ["--only", function]));
-        let output = rt(&self.folder(library), &words);
+        let mut output = rt(&self.folder(library), &words);
+        if !has_judged(&output) {
+            // Most likely the machine had no memory left.
+            output = rt(&self.folder(library), &words);
+        }
         self.lay(library, &Texts::new());
         said(&output)
     }
@@ -99,6 +103,11 @@ fn rt(folder: &Path, words: &[&str]) -> Output {
     command
         .output()
         .unwrap_or_else(|error| panic!("rt: {error}"))
+}
+
+/// Whether the prover came to an end by itself: proved, or not proved.
+fn has_judged(output: &Output) -> bool {
+    matches!(output.status.code(), Some(0 | 1))
 }
 
 fn said(output: &Output) -> String {
