@@ -55,12 +55,12 @@ impl Copy {
         copy
     }
 
-    /// What the prover says of a crate with these texts: of all of it, or of one function.
-    pub fn asked(&self, library: &Crate, texts: &Texts, only: Option<&str>) -> String {
+    /// What the prover says of a crate with these texts: of these functions, or, where there are none, of all of it.
+    pub fn asked(&self, library: &Crate, texts: &Texts, functions: &[&str]) -> String {
         self.lay(library, texts);
         tree(&library.folder, &self.folder(library), WORK);
         let mut words = vec!["check", "--jobs", "1"];
-        words.extend(only.iter().flat_map(|function| ["--only", function]));
+        words.extend(functions.iter().flat_map(|function| ["--only", function]));
         let mut output = rt(&self.folder(library), &words);
         if !has_judged(&output) {
             // Most likely the machine had no memory left.

@@ -64,11 +64,11 @@ impl Trials<'_> {
                 texts.extend(self.proofs(function));
             }
         }
-        let only = match wrong {
-            [one] => one.function.as_deref(),
-            _ => None,
-        };
-        let log = self.copy.asked(self.library, &texts, only);
+        // A definition shows in laws and anywhere; a function by itself.
+        let functions: Option<Vec<&str>> =
+            wrong.iter().map(|one| one.function.as_deref()).collect();
+        let functions = functions.unwrap_or_default();
+        let log = self.copy.asked(self.library, &texts, &functions);
         self.logs += 1;
         let folder = root().join("target/refused").join(&self.library.name);
         let path = folder.join(format!("{}-{}.log", wrong[0].edit, self.logs));
