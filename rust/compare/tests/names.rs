@@ -35,7 +35,7 @@ fn names_are_found() {
 fn exported_functions_are_declared() {
     let root = Path::new(ROOT);
     let mut exported = BTreeSet::new();
-    for entry in fs::read_dir(root.join("crates/jaskkovir/src")).unwrap() {
+    for entry in fs::read_dir(root.join("crates/jaskkovir_c/src")).unwrap() {
         exported.extend(names(&read(&entry.unwrap().path())));
     }
     let for_c = names(&read(&root.join("include/jaskkovir.h")));

@@ -1,15 +1,15 @@
-//! The exported functions, as they stand in `crates/jaskkovir`. A lent part is a pointer and a length.
+//! The exported functions, as they stand in `crates/jaskkovir_c`. A lent part is a pointer and a length.
 //!
 //! Only the functions of `leaves.rt` ask something of their callers, beside valid parts: a part that
 //! is written to must share no byte with another.
 
 extern "C" {
-    // crates/jaskkovir/src/leaves.rt
+    // crates/jaskkovir_c/src/leaves.rt
     pub fn jaskkovir_mv_projection(y: i16, x: i16, num: i16, den: u32) -> u32;
     pub fn jaskkovir_fix_mv_precision(y: i16, x: i16, integer: bool, hp: bool) -> u32;
     pub fn jaskkovir_get_poc_diff(bits: u32, a: u32, b: u32) -> i16;
 
-    // crates/jaskkovir/src/frames.rt
+    // crates/jaskkovir_c/src/frames.rt
     pub fn jaskkovir_init_frame(
         width: usize,
         height: usize,
@@ -37,7 +37,7 @@ extern "C" {
         sizes_len: usize,
     ) -> u8;
 
-    // crates/jaskkovir/src/tiles.rt
+    // crates/jaskkovir_c/src/tiles.rt
     pub fn jaskkovir_tile_sbrow_init(
         frame: *const u8,
         frame_len: usize,
@@ -66,7 +66,7 @@ extern "C" {
         records_len: usize,
     ) -> u8;
 
-    // crates/jaskkovir/src/motions.rt
+    // crates/jaskkovir_c/src/motions.rt
     pub fn jaskkovir_save_tmvs(
         frame: *const u8,
         frame_len: usize,
@@ -128,7 +128,7 @@ extern "C" {
         found_len: usize,
     ) -> u8;
 
-    // crates/jaskkovir/src/batches.rt
+    // crates/jaskkovir_c/src/batches.rt
     pub fn jaskkovir_admit(
         frame: *const u8,
         frame_len: usize,
@@ -187,7 +187,7 @@ extern "C" {
         saved_len: usize,
     ) -> u8;
 
-    // crates/jaskkovir/src/captures.rt
+    // crates/jaskkovir_c/src/captures.rt
     pub fn jaskkovir_play(
         file: *const u8,
         file_len: usize,
