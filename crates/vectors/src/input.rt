@@ -1,6 +1,6 @@
 // Standard input, where a list stands as text: lines of decimal numbers. Whatever is no digit stands
 // between numbers, and a minus right before one makes it negative.
-ghost use Rattle.std.specs.Prelude.{◌<◌, ◌≤◌, IfOk, length};
+ghost use Rattle.std.specs.Prelude.{◌≡◌, ◌<◌, ◌≤◌, IfOk, length};
 
 use lines::read::read_full;
 use std::io;
@@ -163,7 +163,10 @@ pub(crate) fn refill(
     n: usize,
 ) -> io::Result<usize>
     requires { (end ≤ n) × (n ≤ length text.old) }
-    ensures { IfOk result (λ r. r ≤ length text.old) }
+    ensures ok { IfOk result (λ r. r ≤ length text.old) }
+
+    // An error says nothing of the text's bytes.
+    ensures length_kept { length text.new ≡ length text.old }
 {
     let kept = keep_rest(text, end, n);
     let more = read_full(input, &mut text[kept..])?;
