@@ -1,5 +1,6 @@
 -- A record and a cell are what their bytes say.
 -- Assumes nothing.
+use Rattle.std.specs.Prelude.{Option, None, Some}
 use mathlib.Core.Path.{◌≡◌, refl, ap}
 use mathlib.Core.Bool.{Bool, true, false, not}
 use mathlib.Core.List.{List}
@@ -13,8 +14,6 @@ use Rattle.vector.specs.Vector.{mv_at}
 use Rattle.cells.specs.declared.cell.Cell.{Cell}
 use Rattle.cells.specs.Block.{block_at}
 use Rattle.cells.specs.Cell.{cell_at, projected_absent, well_projected}
-use Rattle.rows.specs.declared.table.Place.{Place}
-use Rattle.rows.specs.declared.table.Place.TheVariants.{Absent, At}
 use Rattle.rows.specs.declared.table.RowEntry.{RowEntry}
 use Rattle.rows.specs.Table.{place_at}
 use Rattle.spatial.specs.declared.neighbours.read.NeighbourRead.TheVariants as read_as
@@ -41,7 +40,7 @@ block_same l m i g =
     rw (v, w, r, q, g (12 * i + 10) (omega arith) (omega arith), g (12 * i + 11) (omega arith) (omega arith))
 
 pub read_same : (rows : List RowEntry) (recs recs' : List ℕ) (total e c : ℕ)
-    → ((o : ℕ) → place_at rows e ≡ At o → o + c < total → SameItem 12 recs recs' (o + c)) → read_at rows recs total e c ≡ read_at rows recs' total e c
+    → ((o : ℕ) → place_at rows e ≡ Some o → o + c < total → SameItem 12 recs recs' (o + c)) → read_at rows recs total e c ≡ read_at rows recs' total e c
 unfolding read_at record_at
 read_same rows recs recs' total e c same = by (place_at rows e) refl
   where
@@ -50,9 +49,9 @@ read_same rows recs recs' total e c same = by (place_at rows e) refl
     listed o true h g = ap judged (block_same recs recs' (o + c) (g (ltb-true (o + c) total h)))
     listed o false h g = refl
 
-    by : (p : Place) → place_at rows e ≡ p → in_row recs total c p ≡ in_row recs' total c p
-    by Absent h = refl
-    by (At o) h = listed o (ltb (o + c) total) refl (same o h)
+    by : (p : Option ℕ) → place_at rows e ≡ p → in_row recs total c p ≡ in_row recs' total c p
+    by None h = refl
+    by (Some o) h = listed o (ltb (o + c) total) refl (same o h)
 
 cell-is : (l m : List ℕ) (i : ℕ) → SameItem 5 l m i → cell_at l i ≡ cell_at m i
 unfolding cell_at

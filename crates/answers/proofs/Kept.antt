@@ -7,9 +7,10 @@ use native.Mathlib.Nat.{mul-le-mul}
 use native.Mathlib.Omega.{arith}
 use lib.Dec.{eqb, ltb, leb}
 use lib.ListN.{length, length-map}
+use Rattle.std.specs.Prelude.{Option, None, Some}
 use Rattle.ground.specs.Pick.{pick}
 use Rattle.cells.specs.declared.block.Block.{Block}
-use Rattle.cells.specs.declared.block.MvPair.{MvPair}
+use Rattle.cells.specs.Block.{MvPair}
 use Rattle.spatial.specs.declared.site.block.Site.{Site}
 use Rattle.spatial.specs.site.Site.{side_of, depth_of}
 use Rattle.stack.specs.declared.candidate.Candidate.{Candidate}
@@ -19,8 +20,6 @@ use Rattle.spatial.specs.declared.neighbours.read.Neighbour.{Neighbour}
 use Rattle.spatial.specs.declared.neighbours.read.NeighbourRead.{NeighbourRead}
 use Rattle.spatial.specs.declared.neighbours.read.NeighbourRead.TheVariants as read_as
 use Rattle.spatial.specs.declared.neighbours.want.Want.{Want}
-use Rattle.spatial.specs.declared.neighbours.want.Offer.{Offer}
-use Rattle.spatial.specs.declared.neighbours.want.Offer.TheVariants.{Nothing, Pair}
 use Rattle.spatial.specs.neighbours.Want.{offer_of}
 use Rattle.spatial.specs.neighbours.Neighbour.{along_of, across_of, line_at}
 use Rattle.spatial.specs.declared.scan.Span.{Span}
@@ -66,10 +65,10 @@ keeps-raised s k =
     let e = length-map s.cands (heavier 640) in
     record { some = omega (arith, e); few = omega (arith, e, k.few); heavy = ge-heavier 2 s.cands 640 k.heavy }
 
-keeps-taken : (n : ℕ) (down : Bool) (w mf : ℕ) (s : State) (o : Offer) → Kept n s.cands → 2 ≤ w → Kept n (taken down w mf s o).cands
+keeps-taken : (n : ℕ) (down : Bool) (w mf : ℕ) (s : State) (o : Option MvPair) → Kept n s.cands → 2 ≤ w → Kept n (taken down w mf s o).cands
 unfolding noted
-keeps-taken n down w mf s Nothing k h = k
-keeps-taken n down w mf s (Pair p) k h = keeps-joined n s p w k h
+keeps-taken n down w mf s None k h = k
+keeps-taken n down w mf s (Some p) k h = keeps-joined n s p w k h
 
 keeps-spatial : (n : ℕ) (down : Bool) (w : ℕ) (b : Block) (q : Want) (s : State) → Kept n s.cands → 2 ≤ w → Kept n (spatial down w b q s).cands
 unfolding spatial

@@ -7,7 +7,7 @@ use native.Mathlib.Omega.{arith}
 use lib.Dec.{ltb}
 use lib.ListN.{length, get_or, set, take, drop, length-append, length-set}
 use Rattle.ground.specs.Pick.{pick}
-use Rattle.cells.specs.declared.block.MvPair.{MvPair}
+use Rattle.cells.specs.Block.{MvPair}
 use Rattle.stack.specs.declared.candidate.Candidate.{Candidate}
 use Rattle.stack.specs.declared.clamp.Reach.{Reach}
 use Rattle.stack.specs.Stack.{State, nobody, find_in, stands, heavier, add_to}

@@ -11,8 +11,8 @@ use borrow.Author.Tests.{ltb-true, ltb-false, eqb-false}
 use Rattle.ground.specs.Pick.{pick}
 use Rattle.ground.proofs.Picks.{both}
 use Rattle.cells.specs.declared.cell.Ref.{Ref}
-use Rattle.cells.specs.declared.block.MvPair.{MvPair}
-use Rattle.cells.specs.declared.block.RefPair.{RefPair}
+use Rattle.cells.specs.Block.{MvPair}
+use Rattle.cells.specs.Block.{RefPair}
 use Rattle.spatial.specs.declared.site.block.Site.{Site}
 use Rattle.spatial.specs.site.Site.{limit_of, depth_of}
 use Rattle.spatial.specs.Code.Site.{Placed}

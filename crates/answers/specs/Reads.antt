@@ -1,6 +1,6 @@
 -- What a search looks at: records of the table's rows (7.10.2.2 to 7.10.2.4, 7.10.2.12) and projected cells (7.10.2.5), by the block's place alone.
+use Rattle.std.specs.Prelude.{Some}
 use Rattle.std.specs.Prelude.{ℕ, ◌+◌, ◌-◌, ◌*◌, ◌/◌, ◌≤◌, ◌<◌, ◌≡◌, Bool, true, false, ◌&&◌, List, get_or}
-use Rattle.rows.specs.declared.table.Place.TheVariants.{At}
 use Rattle.rows.specs.declared.table.RowEntry.{RowEntry}
 use Rattle.rows.specs.Table.{place_at}
 use Rattle.spatial.specs.declared.site.block.Site.{Site}
@@ -40,7 +40,7 @@ SameSpots f b cells cells' = (i : ℕ) → Spot f b i → cells i ≡ cells' i
 
 -- The record of a place: its row's first one, which the table has, and the column; it is one of the listed records.
 pub data Seen (rows : List RowEntry) (total : ℕ) (b : Site) : ℕ → Type 0 where
-  seen : (e c o : ℕ) → Place b e c → place_at rows e ≡ At o → o + c < total → Seen rows total b (o + c)
+  seen : (e c o : ℕ) → Place b e c → place_at rows e ≡ Some o → o + c < total → Seen rows total b (o + c)
 
 -- item i, of n bytes, is the same in two lists
 abbrev pub SameItem : ℕ → (l m : List ℕ) → ℕ → Type 0

@@ -1,11 +1,11 @@
 -- A capture file's bytes (document 01, "Capture file"): one byte E, E entries of 9 bytes (kind, offset, length), then the bodies.
-use Rattle.std.specs.Prelude.{ℕ, zero, suc, ◌+◌, ◌-◌, ◌*◌, ◌%◌, Bool, ◌&&◌, not, List, [], eqb, leb, ltb, length, get_or, take, drop}
+use Rattle.std.specs.Prelude.{ℕ, zero, suc, ◌+◌, ◌-◌, ◌*◌, ◌%◌, Bool, ◌&&◌, not, List, [], eqb, leb, ltb, length, get_or, take, drop, Option, Some, None, Result, Ok, Err}
+use Rattle.std.specs.declared.ops.Range.{Range}
 use Rattle.ground.specs.Below.{all_below}
 use Rattle.ground.specs.Little.{four_at}
 use Rattle.ground.specs.Pick.{pick}
 use Rattle.jobs.specs.job.Bytes.{capture_job}
-use Rattle.capture.specs.declared.file.Scan.{Scan}
-use Rattle.capture.specs.declared.file.Scan.TheVariants.{Malformed, Absent, Present}
+use Rattle.capture.specs.declared.file.Malformed.{Malformed}
 
 abbrev pub entries : List ℕ → ℕ
 entries f = get_or f 0 0
@@ -57,24 +57,31 @@ seek f k (suc n) i = pick (eqb (kind_at f i) k) i (seek f k n (suc i))
 unfoldable pub entry_of : List ℕ → ℕ → ℕ
 entry_of f k = seek f k (entries f) 0
 
+-- the same as code looks for it
+unfoldable pub found : List ℕ → ℕ → Option ℕ
+found f k = pick (ltb (entry_of f k) (entries f)) (Some (entry_of f k)) None
+
 -- A FILE THAT BREAKS ANY RULE IS MALFORMED: besides those above, kind 1 comes first, and kind 2 comes.
 unfoldable pub well_file : List ℕ → Bool
 well_file f = has_entries f && tiled f && kinds f && once f && eqb (kind_at f 0) 1 && ltb (entry_of f 2) (entries f)
 
--- what stands there for kind k
+-- what stands there for kind k: an error for a malformed file, none for an absent kind, or where the body starts and ends
+abbrev pub Scan : Type 0
+Scan = Result (Option (Range ℕ)) Malformed
+
 unfoldable pub scan_of : List ℕ → ℕ → Scan
 scan_of f k =
-    pick (not (well_file f)) Malformed
-    (pick (ltb (entry_of f k) (entries f)) (Present (start_of f (entry_of f k)) (start_of f (suc (entry_of f k)))) Absent)
+    pick (not (well_file f)) (Err (record {}))
+    (pick (ltb (entry_of f k) (entries f)) (Ok (Some (record { start = start_of f (entry_of f k); end = start_of f (suc (entry_of f k)) }))) (Ok None))
 
 -- the bytes from start up to end, where they are there
 unfoldable pub part_of : List ℕ → (start end : ℕ) → List ℕ
 part_of f start end = pick (ltb end start) [] (pick (ltb (length f) end) [] (take (end - start) (drop start f)))
 
 abbrev pub body_at : List ℕ → Scan → List ℕ
-body_at f Malformed = []
-body_at f Absent = []
-body_at f (Present start end) = part_of f start end
+body_at f (Err _) = []
+body_at f (Ok None) = []
+body_at f (Ok (Some r)) = part_of f r.start r.end
 
 -- THE BODY OF KIND k, nothing for an absent kind or a malformed file
 abbrev pub body_of : List ℕ → ℕ → List ℕ

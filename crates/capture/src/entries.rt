@@ -1,88 +1,146 @@
 // A capture file's entries, nine bytes each behind the first byte, and the rules that they obey.
-ghost use Rattle.std.specs.Prelude.{◌≡◌, true, ◌+◌, ◌*◌, ◌≤◌, ◌<◌, length};
+ghost use Rattle.std.specs.Prelude.{◌≡◌, true, false, ◌+◌, ◌*◌, ◌≤◌, ◌<◌, length, MatchOption};
 ghost use Rattle.capture.specs.File.{entries, kind_at, offset_at, length_at, start_of, has_entries, tiled};
-ghost use Rattle.capture.specs.File.{is_field, whole_body, kinds, is_new, once, entry_of, well_file};
+ghost use Rattle.capture.specs.File.{whole_body, kinds, is_new, once, entry_of, found, well_file};
 
-use ground::read::size_at;
+use ground::read::{size_at, u32_at};
 use jobs::job::job_bytes::CAPTURE_JOB;
 
 const ENTRY: usize = 9;
 
-fn wide(b: u8) -> usize
-    ensures { result ≡ b }
-{
-    b as usize
-}
-
 // How many entries the file says it has.
-pub(crate) fn entries_of(file: &[u8]) -> usize
+fn entries_of(file: &[u8]) -> usize
     ensures { (result ≡ entries file.now) × (result < 256) }
 {
-    if file.len() == 0 {
-        return 0;
+    file.first().map_or(0, |n| usize::from(*n))
+}
+
+// The entries of a file that has as many as it says.
+#[derive(Clone, Copy)]
+pub(crate) struct Entries<'a> {
+    pub(crate) file: &'a [u8],
+    ghost some: { 1 ≤ entries file.now },
+    ghost few: { entries file.now ≤ 32 },
+    ghost there: { 1 + 9 * entries file.now ≤ length file.now },
+}
+
+impl<'a> Entries<'a> {
+    pub(crate) fn of(file: &'a [u8]) -> Option<Entries<'a>>
+        ensures { MatchOption result (has_entries file.now ≡ false) (λ e. e.file.now ≡ file.now) }
+    {
+        let n = entries_of(file);
+        if n < 1 {
+            return None;
+        }
+        if 32 < n {
+            return None;
+        }
+        if file.len() < 1 + ENTRY * n {
+            return None;
+        }
+        Some(Entries { file })
     }
-    wide(file[0])
-}
 
-fn has_entries(file: &[u8]) -> bool
-    ensures { result ≡ has_entries file.now }
-{
-    let n = entries_of(file);
-    if n < 1 {
-        return false;
+    fn count(&self) -> usize
+        ensures { result ≡ entries self.now.file.now }
+    {
+        usize::from(self.file[0])
     }
-    if 32 < n {
-        return false;
+
+    fn kind(&self, i: usize) -> usize
+        requires { i < entries self.now.file.now }
+        ensures { result ≡ kind_at self.now.file.now i }
+    {
+        usize::from(self.file[1 + ENTRY * i])
     }
-    1 + ENTRY * n <= file.len()
-}
 
-fn kind_at(file: &[u8], i: usize) -> usize
-    requires { 1 + 9 * i < length file.now }
-    ensures { result ≡ kind_at file.now i }
-{
-    wide(file[1 + ENTRY * i])
-}
+    fn offset(&self, i: usize) -> usize
+        requires { i < entries self.now.file.now }
+        ensures { result ≡ offset_at self.now.file.now i }
+    {
+        size_at(self.file, 2 + ENTRY * i)
+    }
 
-fn offset_at(file: &[u8], i: usize) -> usize
-    requires { 10 + 9 * i ≤ length file.now }
-    ensures { (result ≡ offset_at file.now i) × (result < 4294967296) }
-{
-    size_at(file, 2 + ENTRY * i)
-}
+    fn length(&self, i: usize) -> usize
+        requires { i < entries self.now.file.now }
+        ensures { (result ≡ length_at self.now.file.now i) × (result < 4294967296) }
+    {
+        u32_at(self.file, 6 + ENTRY * i) as usize
+    }
 
-fn length_at(file: &[u8], i: usize) -> usize
-    requires { 10 + 9 * i ≤ length file.now }
-    ensures { (result ≡ length_at file.now i) × (result < 4294967296) }
-{
-    size_at(file, 6 + ENTRY * i)
-}
+    // Each body starts where the one before it ends, and the last ends where the file does.
+    fn are_tiled(&self) -> bool
+        ensures { result ≡ tiled self.now.file.now }
+    {
+        let n = self.count();
+        let mut at = 1 + ENTRY * n;
+        for i in 0..n {
+            if self.offset(i) != at {
+                return false;
+            }
+            at += self.length(i);
+        }
+        at == self.file.len()
+    }
 
-// Each body starts where the one before it ends, and the last ends where the file does.
-fn is_tiled(file: &[u8]) -> bool
-    requires { has_entries file.now ≡ true }
-    ensures { result ≡ tiled file.now }
-{
-    let n = entries_of(file);
-    let mut at = 1 + ENTRY * n;
-    let mut i: usize = 0;
-    while i < n {
-        if offset_at(file, i) != at {
+    fn are_whole(&self) -> bool
+        ensures { result ≡ kinds self.now.file.now }
+    {
+        (0..self.count()).all(|i| is_whole(self.kind(i), self.length(i)))
+    }
+
+    // Whether no entry before entry j has its kind.
+    fn is_new(&self, j: usize) -> bool
+        requires { j < entries self.now.file.now }
+        ensures { result ≡ is_new self.now.file.now j }
+    {
+        let kind = self.kind(j);
+        (0..j).all(|i| self.kind(i) != kind)
+    }
+
+    fn are_new(&self) -> bool
+        ensures { result ≡ once self.now.file.now }
+    {
+        (0..self.count()).all(|j| self.is_new(j))
+    }
+
+    // The first entry of a kind, by its number.
+    pub(crate) fn find(&self, kind: usize) -> Option<usize>
+        ensures { result ≡ found self.now.file.now kind }
+    {
+        (0..self.count()).find(|i| self.kind(*i) == kind)
+    }
+
+    // Where entry i's body starts.
+    pub(crate) fn start(&self, i: usize) -> usize
+        requires { i ≤ entries self.now.file.now }
+        ensures { result ≡ start_of self.now.file.now i }
+    {
+        let mut at = 1 + ENTRY * self.count();
+        for k in 0..i {
+            at += self.length(k);
+        }
+        at
+    }
+
+    // Whether the file keeps the rules.
+    pub(crate) fn are_well(&self) -> bool
+        ensures { result ≡ well_file self.now.file.now }
+    {
+        if !self.are_tiled() {
             return false;
         }
-        at += length_at(file, i);
-        i += 1;
+        if !self.are_whole() {
+            return false;
+        }
+        if !self.are_new() {
+            return false;
+        }
+        if self.kind(0) != 1 {
+            return false;
+        }
+        self.find(2).is_some()
     }
-    at == file.len()
-}
-
-fn is_field(kind: usize) -> bool
-    ensures { result ≡ is_field kind }
-{
-    if kind < 16 {
-        return false;
-    }
-    kind <= 22
 }
 
 // A description of 67 bytes, whole jobs, whole records, whole cells; no other kind.
@@ -93,108 +151,16 @@ fn is_whole(kind: usize, n: usize) -> bool
         1 => n == 67,
         2 => n % CAPTURE_JOB == 0,
         4 => n % 12 == 0,
-        k => {
-            if is_field(k) {
-                return n % 5 == 0;
-            }
-            false
-        }
+        16..=22 => n % 5 == 0,
+        _ => false,
     }
-}
-
-fn are_whole(file: &[u8]) -> bool
-    requires { has_entries file.now ≡ true }
-    ensures { result ≡ kinds file.now }
-{
-    let n = entries_of(file);
-    let mut i: usize = 0;
-    while i < n {
-        if !is_whole(kind_at(file, i), length_at(file, i)) {
-            return false;
-        }
-        i += 1;
-    }
-    true
-}
-
-// Whether no entry before entry j has its kind.
-fn is_new(file: &[u8], j: usize) -> bool
-    requires { 1 + 9 * j < length file.now }
-    ensures { result ≡ is_new file.now j }
-{
-    let kind = kind_at(file, j);
-    let mut i: usize = 0;
-    while i < j {
-        if kind_at(file, i) == kind {
-            return false;
-        }
-        i += 1;
-    }
-    true
-}
-
-fn is_once(file: &[u8]) -> bool
-    requires { has_entries file.now ≡ true }
-    ensures { result ≡ once file.now }
-{
-    let n = entries_of(file);
-    let mut j: usize = 0;
-    while j < n {
-        if !is_new(file, j) {
-            return false;
-        }
-        j += 1;
-    }
-    true
-}
-
-// The number of the first entry of a kind; past all where there is none.
-pub(crate) fn entry_of(file: &[u8], kind: usize) -> usize
-    requires { has_entries file.now ≡ true }
-    ensures { result ≡ entry_of file.now kind }
-{
-    let n = entries_of(file);
-    let mut i: usize = 0;
-    while i < n {
-        if kind_at(file, i) == kind {
-            return i;
-        }
-        i += 1;
-    }
-    i
-}
-
-// Where entry i's body starts.
-pub(crate) fn start_of(file: &[u8], i: usize) -> usize
-    requires { (has_entries file.now ≡ true) × (i ≤ entries file.now) }
-    ensures { result ≡ start_of file.now i }
-{
-    let mut at = 1 + ENTRY * entries_of(file);
-    let mut k: usize = 0;
-    while k < i {
-        at += length_at(file, k);
-        k += 1;
-    }
-    at
 }
 
 pub fn is_well(file: &[u8]) -> bool
     ensures { result ≡ well_file file.now }
 {
-    if !has_entries(file) {
-        return false;
+    match Entries::of(file) {
+        Some(e) => e.are_well(),
+        None => false,
     }
-    if !is_tiled(file) {
-        return false;
-    }
-    if !are_whole(file) {
-        return false;
-    }
-    if !is_once(file) {
-        return false;
-    }
-    if kind_at(file, 0) != 1 {
-        return false;
-    }
-    entry_of(file, 2) < entries_of(file)
 }

@@ -1,70 +1,69 @@
 // What stands in a capture file for a kind.
-ghost use Rattle.std.specs.Prelude.{◌≡◌, true};
+ghost use Rattle.std.specs.Prelude.{◌≡◌, true, false, MatchResult};
 ghost use Rattle.capture.specs.File.{well_file, scan_of, part_of, body_of};
 
-use crate::entries::{entries_of, entry_of, is_well, start_of};
+use crate::entries::Entries;
+use std::ops::Range;
 
-// Where the body of a kind starts and ends.
+// A file that breaks a rule.
+#[derive(Clone, Copy, Debug, PartialEq, Eq)]
+pub struct Malformed;
+
+// A file that keeps the rules.
 #[derive(Clone, Copy)]
-pub enum Scan {
-    Malformed,
-    Absent,
-    Present(usize, usize),
+pub(crate) struct Capture<'a> {
+    pub(crate) entries: Entries<'a>,
+    ghost well: { well_file entries.file.now ≡ true },
 }
 
-// What stands for a kind in a file whose rules are judged already.
-pub(crate) fn scan_in(file: &[u8], kind: u8) -> Scan
-    requires { well_file file.now ≡ true }
+fn part(file: &[u8], range: Range<usize>) -> &[u8]
+    ensures { result.now ≡ part_of file.now range.start range.end }
+{
+    file.get(range).unwrap_or(&[])
+}
+
+impl<'a> Capture<'a> {
+    pub(crate) fn of(file: &'a [u8]) -> Result<Capture<'a>, Malformed>
+        ensures { MatchResult result (λ c. c.entries.file.now ≡ file.now) (λ _. well_file file.now ≡ false) }
+    {
+        match Entries::of(file) {
+            Some(entries) if entries.are_well() => Ok(Capture { entries }),
+            _ => Err(Malformed),
+        }
+    }
+
+    // Where the body of a kind starts and ends.
+    pub(crate) fn scan(&self, kind: u8) -> Option<Range<usize>>
+        ensures { Ok result ≡ scan_of self.now.entries.file.now kind }
+    {
+        let i = self.entries.find(usize::from(kind))?;
+        Some(self.entries.start(i)..self.entries.start(i + 1))
+    }
+
+    // The body of a kind, as that part of the lent file: empty for an absent kind.
+    pub(crate) fn body(&self, kind: u8) -> &'a [u8]
+        ensures { result.now ≡ body_of self.now.entries.file.now kind }
+    {
+        match self.scan(kind) {
+            Some(range) => part(self.entries.file, range),
+            None => &[],
+        }
+    }
+}
+
+// Whether the file is malformed, has no entry of the kind, or has one: then where its body stands.
+pub fn scan_for(file: &[u8], kind: u8) -> Result<Option<Range<usize>>, Malformed>
     ensures { result ≡ scan_of file.now kind }
 {
-    let i = entry_of(file, kind as usize);
-    if entries_of(file) <= i {
-        return Scan::Absent;
-    }
-    Scan::Present(start_of(file, i), start_of(file, i + 1))
-}
-
-// Whether the file is malformed, has no entry of the kind, or has one.
-pub fn scan_for(file: &[u8], kind: u8) -> Scan
-    ensures { result ≡ scan_of file.now kind }
-{
-    if !is_well(file) {
-        return Scan::Malformed;
-    }
-    scan_in(file, kind)
-}
-
-fn part(file: &[u8], start: usize, end: usize) -> &[u8]
-    ensures { result.now ≡ part_of file.now start end }
-{
-    if end < start {
-        return &file[0..0];
-    }
-    if file.len() < end {
-        return &file[0..0];
-    }
-    &file[start..end]
-}
-
-// The body of a kind in a file whose rules are judged already.
-pub(crate) fn body_in(file: &[u8], kind: u8) -> &[u8]
-    requires { well_file file.now ≡ true }
-    ensures { result.now ≡ body_of file.now kind }
-{
-    let s = scan_in(file, kind);
-    match s {
-        Scan::Present(start, end) => part(file, start, end),
-        Scan::Absent => &file[0..0],
-        Scan::Malformed => &file[0..0],
-    }
+    Ok(Capture::of(file)?.scan(kind))
 }
 
 // The body of a kind, as that part of the lent file: empty for an absent kind or a malformed file.
 pub fn body(file: &[u8], kind: u8) -> &[u8]
     ensures { result.now ≡ body_of file.now kind }
 {
-    if !is_well(file) {
-        return &file[0..0];
+    match Capture::of(file) {
+        Ok(capture) => capture.body(kind),
+        Err(Malformed) => &[],
     }
-    body_in(file, kind)
 }

@@ -22,7 +22,7 @@ use Rattle.vector.specs.Vector.{mv_at, mv_bytes}
 use Rattle.vector.specs.declared.mv.Mv.{Mv}
 use Rattle.vector.proofs.Vectors.{Fits, mv-back, mv-outside}
 use Rattle.cells.specs.Block.{block_at, tail_bytes, block_bytes, bound_to, well_block}
-use Rattle.cells.specs.declared.block.RefPair.{RefPair}
+use Rattle.cells.specs.Block.{RefPair}
 use Rattle.cells.specs.declared.block.Block.{Block}
 
 -- a pair of references whose fields are

@@ -7,24 +7,23 @@ use Prim.Native.Nat.{ℕ, zero, suc, ◌≤◌}
 use native.Mathlib.Omega.{arith}
 use lib.Dec.{T, leb}
 use borrow.Author.Tests.{leb-true}
+use Rattle.std.proofs.Common.{Option, Some, None}
 use Rattle.ground.specs.Below.{all_below}
 use Rattle.ground.proofs.Belows.{at}
 use Rattle.ground.proofs.Tables.{anywhere}
 use Rattle.cells.specs.Size.{size_of, sizes}
 use Rattle.cells.specs.declared.size.Dims.{Dims}
-use Rattle.cells.specs.declared.size.Sized.{Sized}
-use Rattle.cells.specs.declared.size.Sized.TheVariants.{Of, Refused}
 
 up_to32 : ℕ → Bool
 up_to32 n = leb 1 n && leb n 32
 
-narrowly : Sized → Bool
-narrowly Refused = true
-narrowly (Of d) = up_to32 d.w.0 && up_to32 d.h.0
+narrowly : Option Dims → Bool
+narrowly None = true
+narrowly (Some d) = up_to32 d.w.0 && up_to32 d.h.0
 
 every-narrow : (n : ℕ) → T (narrowly (size_of n))
 unfolding size_of narrowly up_to32
-every-narrow n = anywhere narrowly Refused tt sizes 0 tt n
+every-narrow n = anywhere narrowly None tt sizes 0 tt n
 
 is_true : (t : Bool) → T t → t ≡ true
 is_true true h = refl
@@ -37,10 +36,10 @@ pub record Narrow (d : Dims) : Type 0 where
   pub some-h : 1 ≤ d.h.0
   pub few-h : d.h.0 ≤ 32
 
-pub narrow : (n : ℕ) (d : Dims) → size_of n ≡ Of d → Narrow d
+pub narrow : (n : ℕ) (d : Dims) → size_of n ≡ Some d → Narrow d
 unfolding narrowly up_to32
 narrow n d e =
-    let t = is_true (narrowly (Of d)) (subst (λ (s : Sized). T (narrowly s)) e (every-narrow n)) in
+    let t = is_true (narrowly (Some d)) (subst (λ (s : Option Dims). T (narrowly s)) e (every-narrow n)) in
     let h = (and-eq-true_iff (up_to32 d.w.0) (up_to32 d.h.0)).0 t in
     let w = (and-eq-true_iff (leb 1 d.w.0) (leb d.w.0 32)).0 h.0 in
     let g = (and-eq-true_iff (leb 1 d.h.0) (leb d.h.0 32)).0 h.1 in
@@ -52,21 +51,21 @@ narrow n d e =
     }
 
 -- every code up to 21 has a size: a test that the checker computes over the codes, once
-has-size : Sized → Bool
-has-size (Of d) = true
-has-size Refused = false
+has-size : Option Dims → Bool
+has-size (Some d) = true
+has-size None = false
 
 all-sized : all_below 22 (λ n. has-size (size_of n)) ≡ true
 unfolding all_below has-size size_of
 all-sized = refl
 
-pub size_is : (code : ℕ) → code ≤ 21 → (d : Dims) × (size_of code ≡ Of d)
+pub size_is : (code : ℕ) → code ≤ 21 → (d : Dims) × (size_of code ≡ Some d)
 unfolding has-size
 size_is code h = by (size_of code) refl (at (λ n. has-size (size_of n)) 22 code all-sized (omega arith))
   where
-    by : (z : Sized) → size_of code ≡ z → has-size (size_of code) ≡ true → (d : Dims) × (size_of code ≡ Of d)
-    by (Of d) e t = (d, e)
-    by Refused e t = absurd (true≢false (sym t ∙ ap has-size e))
+    by : (z : Option Dims) → size_of code ≡ z → has-size (size_of code) ≡ true → (d : Dims) × (size_of code ≡ Some d)
+    by (Some d) e t = (d, e)
+    by None e t = absurd (true≢false (sym t ∙ ap has-size e))
 
 -- no key of a match on 0, 1, .., k - 1 is n: in the form in which the check hands it over
 abbrev pub Miss : ℕ → ℕ → Type 0

@@ -5,9 +5,14 @@ use Rattle.ground.specs.Twos.{twos8, byte_at, byte_of}
 use Rattle.vector.specs.Vector.{within, mv_at, mv_bytes}
 use Rattle.vector.specs.declared.mv.Mv.{Mv}
 use Rattle.cells.specs.declared.cell.Ref.{Ref}
-use Rattle.cells.specs.declared.block.MvPair.{MvPair}
-use Rattle.cells.specs.declared.block.RefPair.{RefPair}
+use Rattle.cells.specs.declared.block.Pair.{Pair}
 use Rattle.cells.specs.declared.block.Block.{Block}
+
+abbrev pub MvPair : Type 0
+MvPair = Pair Mv
+
+abbrev pub RefPair : Type 0
+RefPair = Pair Ref
 
 -- the two vectors, and the two references, from byte i on
 abbrev pub vectors_at : List ℕ → ℕ → MvPair

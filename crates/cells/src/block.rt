@@ -6,24 +6,23 @@ ghost use Rattle.cells.specs.Block.{vectors_at, refs_in, block_at, tail_bytes, b
 
 use crate::cell::Ref;
 use ground::read::word_at;
-use ground::twos::{byte_bits, signed_byte};
 use vector::mv::Mv;
 
-#[derive(Clone, Copy)]
-pub struct MvPair {
-    pub first: Mv,
-    pub second: Mv,
+// One for each of a block's two references.
+#[derive(Clone, Copy, Debug, PartialEq, Eq)]
+pub struct Pair<T> {
+    pub first: T,
+    pub second: T,
 }
 
-#[derive(Clone, Copy)]
-pub struct RefPair {
-    pub first: Ref,
-    pub second: Ref,
-}
+pub type MvPair = Pair<Mv>;
 
+pub type RefPair = Pair<Ref>;
+
+// bs and mf stay numbers, since a record is read from bytes before it is known to be well formed.
 // bs is the size code. mf's bit 0 says that the block has a global mode and is at least 8x8, bit 1
 // that its mode has a new vector.
-#[derive(Clone, Copy)]
+#[derive(Clone, Copy, Debug, PartialEq, Eq)]
 pub struct Block {
     pub mv: MvPair,
     pub refs: RefPair,
@@ -35,30 +34,27 @@ pub struct Block {
 fn bound_to(v: Mv, r: Ref) -> bool
     ensures { result ≡ bound_to v r }
 {
-    if r.from_to(1, 7) {
-        return v.within(16383);
-    }
-    true
+    !r.is_ref() || v.within(16383)
 }
 
 fn read_vectors(s: &[u8], at: usize) -> MvPair
     requires { at + 8 ≤ length s.now }
     ensures { result ≡ vectors_at s.now at }
 {
-    let first = Mv::read(s, at);
-    let second = Mv::read(s, at + 4);
-    MvPair { first, second }
+    MvPair {
+        first: Mv::read(s, at),
+        second: Mv::read(s, at + 4),
+    }
 }
 
 // The references in the two low bytes of a number.
 fn refs_of(n: u32) -> RefPair
     ensures { result ≡ refs_in n }
 {
-    let first = signed_byte((n % 256) as u8);
-    let second = signed_byte((n / 256 % 256) as u8);
+    let [first, second, _, _] = n.to_le_bytes();
     RefPair {
-        first: Ref(first),
-        second: Ref(second),
+        first: Ref(first.cast_signed()),
+        second: Ref(second.cast_signed()),
     }
 }
 
@@ -73,12 +69,8 @@ impl Block {
         let mv = read_vectors(s, at);
         let tail = word_at(s, at + 8);
         let refs = refs_of(tail);
-        Block {
-            mv,
-            refs,
-            bs: (tail / 65536 % 256) as u8,
-            mf: (tail / 16777216 % 256) as u8,
-        }
+        let [_, _, bs, mf] = tail.to_le_bytes();
+        Block { mv, refs, bs, mf }
     }
 
     pub fn write(self, s: &mut [u8], i: usize)
@@ -86,34 +78,23 @@ impl Block {
         ensures { s.new ≡ put s.old (12 * i) (block_bytes self) }
     {
         let at = 12 * i;
-        let mv = self.mv;
-        let refs = self.refs;
-        mv.first.write(s, at);
-        mv.second.write(s, at + 4);
-        write_tail(s, at + 8, refs, self.bs, self.mf);
+        self.mv.first.write(s, at);
+        self.mv.second.write(s, at + 4);
+        write_tail(s, at + 8, self.refs, self.bs, self.mf);
     }
 
     pub fn well_formed(self) -> bool
         ensures { result ≡ well_block self }
     {
-        if 21 < self.bs {
-            return false;
-        }
-        if 3 < self.mf {
+        if 21 < self.bs || 3 < self.mf {
             return false;
         }
         let mv = self.mv;
         let refs = self.refs;
-        if !refs.first.from_to(0, 7) {
+        if !refs.first.from_to(0, 7) || !refs.second.from_to(-1, 7) {
             return false;
         }
-        if !refs.second.from_to(-1, 7) {
-            return false;
-        }
-        if bound_to(mv.first, refs.first) {
-            return bound_to(mv.second, refs.second);
-        }
-        false
+        bound_to(mv.first, refs.first) && bound_to(mv.second, refs.second)
     }
 }
 
@@ -122,8 +103,8 @@ fn write_tail(s: &mut [u8], at: usize, refs: RefPair, bs: u8, mf: u8)
     requires { at + 4 ≤ length s.old }
     ensures { s.new ≡ put s.old at (tail_bytes refs bs mf) }
 {
-    s[at] = byte_bits(refs.first.0);
-    s[at + 1] = byte_bits(refs.second.0);
+    s[at] = refs.first.0.cast_unsigned();
+    s[at + 1] = refs.second.0.cast_unsigned();
     s[at + 2] = bs;
     s[at + 3] = mf;
 }

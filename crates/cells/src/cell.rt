@@ -2,14 +2,14 @@
 // differently, so each has its own tests, and neither mark is ever read as the other.
 ghost use Rattle.std.specs.Prelude.{◌≡◌, true, ◌+◌, ◌-◌, ◌*◌, ◌≤◌, pos, nat_abs, length};
 ghost use Rattle.ground.specs.Put.{put};
-ghost use Rattle.ground.specs.Sign.{eq_z, from_to};
+ghost use Rattle.ground.specs.Sign.{from_to};
 ghost use Rattle.cells.specs.Cell.{is_ref, cell_at, cell_bytes, saved_absent, projected_absent, well_saved, well_projected};
 
-use ground::twos::{byte_bits, signed_byte};
 use vector::mv::Mv;
 
-// A reference frame, 1..7, INTRA or NONE; in a projected cell a distance, 1..31.
-#[derive(Clone, Copy)]
+// A reference frame, 1..7, INTRA or NONE; in a projected cell a distance, 1..31. It stays a number:
+// `read` gives back any byte that was lent, and tells nothing of it.
+#[derive(Clone, Copy, Debug, PartialEq, Eq)]
 pub struct Ref(pub i8);
 
 impl Ref {
@@ -17,16 +17,10 @@ impl Ref {
 
     pub const NONE: Ref = Ref(-1);
 
-    pub fn is(self, o: Ref) -> bool
-        ensures { result ≡ eq_z self.0 o.0 }
-    {
-        self.0 == o.0
-    }
-
     pub fn from_to(self, lo: i8, hi: i8) -> bool
         ensures { result ≡ from_to lo hi self.0 }
     {
-        if lo <= self.0 { self.0 <= hi } else { false }
+        lo <= self.0 && self.0 <= hi
     }
 
     // A reference frame, and neither INTRA nor NONE.
@@ -41,11 +35,11 @@ impl Ref {
         requires { from_to (pos 1) (pos 7) self.0 ≡ true }
         ensures { (result ≡ nat_abs self.0 - 1) × (result ≤ 6) }
     {
-        byte_bits(self.0) as usize - 1
+        self.0 as usize - 1
     }
 }
 
-#[derive(Clone, Copy)]
+#[derive(Clone, Copy, Debug, PartialEq, Eq)]
 pub struct Cell {
     pub mv: Mv,
     pub reference: Ref,
@@ -58,11 +52,9 @@ impl Cell {
         ensures { result ≡ cell_at s.now i }
     {
         let at = 5 * i;
-        let mv = Mv::read(s, at);
-        let r = signed_byte(s[at + 4]);
         Cell {
-            mv,
-            reference: Ref(r),
+            mv: Mv::read(s, at),
+            reference: Ref(s[at + 4].cast_signed()),
         }
     }
 
@@ -71,16 +63,15 @@ impl Cell {
         ensures { s.new ≡ put s.old (5 * i) (cell_bytes self) }
     {
         let at = 5 * i;
-        let r = self.reference;
         self.mv.write(s, at);
-        s[at + 4] = byte_bits(r.0);
+        s[at + 4] = self.reference.0.cast_unsigned();
     }
 
     // In a saved field reference 0 marks a cell with no motion, whatever its vector.
     pub fn saved_absent(self) -> bool
         ensures { result ≡ saved_absent self }
     {
-        self.reference.is(Ref::INTRA)
+        self.reference == Ref::INTRA
     }
 
     // In a projected field the vector INVALID does, whatever the reference.
@@ -93,24 +84,12 @@ impl Cell {
     pub fn well_saved(self) -> bool
         ensures { result ≡ well_saved self }
     {
-        if self.saved_absent() {
-            return true;
-        }
-        if self.reference.from_to(1, 7) {
-            return self.mv.within(4095);
-        }
-        false
+        self.saved_absent() || (self.reference.from_to(1, 7) && self.mv.within(4095))
     }
 
     pub fn well_projected(self) -> bool
         ensures { result ≡ well_projected self }
     {
-        if self.projected_absent() {
-            return true;
-        }
-        if self.mv.within(4095) {
-            return self.reference.from_to(1, 31);
-        }
-        false
+        self.projected_absent() || (self.mv.within(4095) && self.reference.from_to(1, 31))
     }
 }

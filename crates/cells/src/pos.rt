@@ -3,11 +3,11 @@
 ghost use Rattle.std.specs.Prelude.{◌≡◌, ◌+◌, ◌*◌, ◌/◌, ◌^◌, ◌<◌};
 
 // In units of 4 samples, as block records are.
-#[derive(Clone, Copy)]
+#[derive(Clone, Copy, Debug, PartialEq, Eq, PartialOrd, Ord)]
 pub struct Pos4(pub usize);
 
 // In units of 8 samples, as motion cells are.
-#[derive(Clone, Copy)]
+#[derive(Clone, Copy, Debug, PartialEq, Eq, PartialOrd, Ord)]
 pub struct Pos8(pub usize);
 
 impl Pos4 {
@@ -22,7 +22,7 @@ impl Pos4 {
     pub fn halved_up(self) -> Pos8
         ensures { result.0 ≡ (self.0 + 1) / 2 }
     {
-        Pos8(self.0 / 2 + self.0 % 2)
+        Pos8(self.0.div_ceil(2))
     }
 }
 

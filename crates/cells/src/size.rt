@@ -5,30 +5,25 @@ ghost use Rattle.cells.specs.Size.{bs, size_of};
 use crate::pos::Pos4;
 
 // A block's width and height.
-#[derive(Clone, Copy)]
+#[derive(Clone, Copy, Debug, PartialEq, Eq)]
 pub struct Dims {
     pub w: Pos4,
     pub h: Pos4,
 }
 
-#[derive(Clone, Copy)]
-pub enum Sized {
-    Of(Dims),
-    Refused,
-}
-
 // A block of w x h samples.
-fn samples(w: usize, h: usize) -> Sized
+fn samples(w: usize, h: usize) -> Option<Dims>
     ensures { result ≡ bs w h }
 {
-    Sized::Of(Dims {
+    Some(Dims {
         w: Pos4(w / 4),
         h: Pos4(h / 4),
     })
 }
 
-// Both dimensions of a size code, by the name that `BlockSize` has for it.
-pub fn dimensions(code: u8) -> Sized
+// Both dimensions of a size code, by the name that `BlockSize` has for it; none where it has none.
+#[tactic(auto, using(crate::proofs::Sizes::miss), unfolding(crate::specs::Size::size_of))]
+pub fn dimensions(code: u8) -> Option<Dims>
     ensures { result ≡ size_of code }
 {
     match code {
@@ -54,6 +49,6 @@ pub fn dimensions(code: u8) -> Sized
         19 => samples(4, 16),
         20 => samples(4, 8),
         21 => samples(4, 4),
-        _ => Sized::Refused,
+        _ => None,
     }
 }

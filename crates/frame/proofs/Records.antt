@@ -17,7 +17,7 @@ use Rattle.ground.proofs.Picks.{and-on, both}
 use Rattle.ground.proofs.Signs.{clip3-is, abs-signed}
 use Rattle.ground.proofs.Belows.{all_of}
 use Rattle.frame.specs.declared.hints.description.Description.{Description}
-use Rattle.frame.specs.declared.mfmv.Ref2Cur.TheVariants.{Skipped, At}
+use Rattle.std.specs.Prelude.{None, Some}
 use Rattle.frame.specs.declared.record.Frame.{Frame}
 use Rattle.frame.specs.extent.Sizes.{limits, eighths, stride_of, sbsz_of, parts_of, sizes_of, superblock, follows, well_sizes}
 use Rattle.frame.specs.hints.Description.{under, flags, setup_answer, hint_at}
@@ -89,7 +89,7 @@ well-cur : (z : ℤ) (r : ℕ) → well_cur (towards z r) ≡ true
 unfolding well_cur towards
 well-cur z r = by (far z) refl (leb r 1)
   where
-    by : (b : Bool) → far z ≡ b → (s : Bool) → well_cur (pick b Skipped (At (pick s (neg_ℤ z) z))) ≡ true
+    by : (b : Bool) → far z ≡ b → (s : Bool) → well_cur (pick b None (Some (pick s (neg_ℤ z) z))) ≡ true
     by true e s = refl
     by false e true = let h = near z e in let k = abs_neg z in le-leb (nat_abs (neg_ℤ z)) 31 (omega arith)
     by false e false = le-leb (nat_abs z) 31 (near z e)

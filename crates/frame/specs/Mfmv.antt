@@ -1,13 +1,11 @@
 -- A projected reference: refToCur and refOffset of the projection process (7.9.2).
-use Rattle.std.specs.Prelude.{ℕ, Bool, true, ◌&&◌, ◌||◌, List, [], ◌∷◌, ltb, leb, ℤ, pos, neg_ℤ, nat_abs, length, get_or, replicate}
+use Rattle.std.specs.Prelude.{ℕ, Bool, true, ◌&&◌, ◌||◌, List, [], ◌∷◌, ltb, leb, Option, None, Some, ℤ, pos, neg_ℤ, nat_abs, length, get_or, replicate}
 use Rattle.ground.specs.Pick.{pick}
 use Rattle.ground.specs.Sign.{below}
 use Rattle.vector.specs.Hint.{distance}
 use Rattle.frame.specs.declared.hints.description.Description.{Description}
 use Rattle.frame.specs.declared.hints.select.Selection.{Selection}
 use Rattle.frame.specs.declared.mfmv.Mfmv.{Mfmv}
-use Rattle.frame.specs.declared.mfmv.Ref2Cur.{Ref2Cur}
-use Rattle.frame.specs.declared.mfmv.Ref2Cur.TheVariants.{Skipped, At}
 use Rattle.frame.specs.hints.Description.{under, hint_at, held_at}
 use Rattle.frame.specs.hints.Distances.{seven, from_current}
 use Rattle.frame.specs.hints.Selection.{last2_frame, selectable}
@@ -17,8 +15,8 @@ unfoldable pub far : ℤ → Bool
 far z = ltb 31 (nat_abs z)
 
 -- refToCur * dst_sign, dst_sign being -1 for LAST and LAST2 and 1 for the others
-unfoldable pub towards : ℤ → ℕ → Ref2Cur
-towards refToCur r = pick (far refToCur) Skipped (At (pick (leb r last2_frame) (neg_ℤ refToCur) refToCur))
+unfoldable pub towards : ℤ → ℕ → Option ℤ
+towards refToCur r = pick (far refToCur) None (Some (pick (leb r last2_frame) (neg_ℤ refToCur) refToCur))
 
 -- refOffset of the reference's own reference m, where it is 0..31; else 0
 unfoldable pub offset : ℤ → ℕ
@@ -37,11 +35,11 @@ mfmv_of d r =
 
 -- a place that nothing is selected for
 abbrev pub idle : Mfmv
-idle = record { reference = 0; ref2cur = At (pos 0); ref2ref = replicate 7 0 }
+idle = record { reference = 0; ref2cur = Some (pos 0); ref2ref = replicate 7 0 }
 
 -- what a read past the record's places would give
 abbrev pub no_mfmv : Mfmv
-no_mfmv = record { reference = 0; ref2cur = Skipped; ref2ref = [] }
+no_mfmv = record { reference = 0; ref2cur = None; ref2ref = [] }
 
 -- place i of a selection
 unfoldable pub slot_of : Description → List ℕ → ℕ → Mfmv
@@ -55,9 +53,9 @@ abbrev pub slots : Description → List ℕ → List Mfmv
 slots d xs = slot_of d xs 0 ∷ slot_of d xs 1 ∷ slot_of d xs 2 ∷ []
 
 -- values that setup can give, each field for itself: one of the five references, a distance to 31 either way or skipped, distances to 31
-unfoldable pub well_cur : Ref2Cur → Bool
-well_cur Skipped = true
-well_cur (At z) = leb (nat_abs z) 31
+unfoldable pub well_cur : Option ℤ → Bool
+well_cur None = true
+well_cur (Some z) = leb (nat_abs z) 31
 
 unfoldable pub well_mfmv : Mfmv → Bool
 well_mfmv m = selectable m.reference && well_cur m.ref2cur && under m.ref2ref 32

@@ -6,25 +6,19 @@ ghost use Rattle.frame.specs.hints.Distances.{seven};
 ghost use Rattle.frame.specs.Mfmv.{far, towards, offset, mfmv_of, idle, slot_in, well_cur, well_mfmv};
 ghost use Rattle.frame.specs.hints.Selection.{selectable};
 
-use crate::hints::description::{Description, held_in, wide};
+use crate::hints::description::{Description, held_in};
 use crate::hints::distances::near;
 use crate::hints::select::{ALTREF, BWDREF, LAST2, Selection};
 use ground::sign::{magnitude, negative};
 use vector::hint::get_poc_diff;
 
-// A reference more than 31 away is skipped: it counts as selected, and none of its cells lands.
-#[derive(Clone, Copy)]
-pub enum Ref2Cur {
-    Skipped,
-    At(i16),
-}
-
-// reference is counted from 0, LAST. ref2ref holds, for each reference of that frame, how far it lies
-// before that frame, or 0 where its cells are not projected.
+// reference is counted from 0, LAST. ref2cur is how far it lies from the current frame: one more than
+// 31 away has none, for it counts as selected, and none of its cells lands. ref2ref holds, for each
+// reference of that frame, how far it lies before that frame, or 0 where its cells are not projected.
 #[derive(Clone, Copy)]
 pub struct Mfmv {
     pub reference: u8,
-    pub ref2cur: Ref2Cur,
+    pub ref2cur: Option<i16>,
     pub ref2ref: [u8; 7],
 }
 
@@ -36,25 +30,19 @@ fn is_far(z: i16) -> bool
 
 // The distance as it is projected with: cells of LAST and LAST2 go forwards, those of later frames
 // backwards.
-fn toward_current(z: i16, reference: u8) -> Ref2Cur
+fn toward_current(z: i16, reference: u8) -> Option<i16>
     ensures { result ≡ towards z reference }
 {
     if is_far(z) {
-        return Ref2Cur::Skipped;
+        return None;
     }
-    if reference <= LAST2 {
-        return Ref2Cur::At(-z);
-    }
-    Ref2Cur::At(z)
+    Some(if reference <= LAST2 { -z } else { z })
 }
 
 fn offset_of(z: i16) -> u8
     ensures { result ≡ offset z }
 {
-    if negative(z) {
-        return 0;
-    }
-    if is_far(z) {
+    if negative(z) || is_far(z) {
         return 0;
     }
     magnitude(z) as u8
@@ -72,15 +60,7 @@ fn refs2ref(bits: u32, held: &[u8], here: u32, r: usize) -> [u8; 7]
     requires { (bits ≤ 8) × (here < 2 ^ bits) × (under held.now (2 ^ bits) ≡ true) × (length held.now ≡ 49) × (r < 7) }
     ensures { result ≡ seven (λ m. offset (distance bits here (get_or held.now (7 * r + m) 0))) }
 {
-    [
-        ref2ref(bits, held, here, r, 0),
-        ref2ref(bits, held, here, r, 1),
-        ref2ref(bits, held, here, r, 2),
-        ref2ref(bits, held, here, r, 3),
-        ref2ref(bits, held, here, r, 4),
-        ref2ref(bits, held, here, r, 5),
-        ref2ref(bits, held, here, r, 6),
-    ]
+    std::array::from_fn(|m| ref2ref(bits, held, here, r, m))
 }
 
 // d's hints, and those that the references' own frames held, are lent beside it: an array is copied
@@ -89,28 +69,20 @@ fn mfmv_of(d: Description, hints: &[u8], held: &[u8], reference: u8) -> Mfmv
     requires { (hints.now ≡ d.hints) × (held.now ≡ d.hints_by_ref) × (hinted d ≡ true) × (reference < 7) }
     ensures { result ≡ mfmv_of d reference }
 {
-    let r = place(reference);
-    let here = wide(hints[r]);
+    let r = usize::from(reference);
+    let here = u32::from(hints[r]);
     let there = get_poc_diff(d.hint_bits, here, d.current_hint);
-    let cur = toward_current(there, reference);
-    if is_far(there) {
-        return Mfmv {
-            reference,
-            ref2cur: cur,
-            ref2ref: [0; 7],
-        };
-    }
+    let ref2cur = toward_current(there, reference);
+    let ref2ref = if is_far(there) {
+        [0; 7]
+    } else {
+        refs2ref(d.hint_bits, held, here, r)
+    };
     Mfmv {
         reference,
-        ref2cur: cur,
-        ref2ref: refs2ref(d.hint_bits, held, here, r),
+        ref2cur,
+        ref2ref,
     }
-}
-
-fn place(reference: u8) -> usize
-    ensures { result ≡ reference }
-{
-    reference as usize
 }
 
 // What stands where nothing is selected.
@@ -119,7 +91,7 @@ fn idle_mfmv() -> Mfmv
 {
     Mfmv {
         reference: 0,
-        ref2cur: Ref2Cur::At(0),
+        ref2cur: Some(0),
         ref2ref: [0; 7],
     }
 }
@@ -142,15 +114,7 @@ impl Mfmv {
     pub fn well_formed(self) -> bool
         ensures { result ≡ well_mfmv self }
     {
-        if !is_selectable(self.reference) {
-            return false;
-        }
-        let cur = self.ref2cur;
-        if !well_cur(cur) {
-            return false;
-        }
-        let refs = self.ref2ref;
-        all_short(refs)
+        is_selectable(self.reference) && well_cur(self.ref2cur) && all_short(self.ref2ref)
     }
 }
 
@@ -158,18 +122,16 @@ fn is_selectable(reference: u8) -> bool
     ensures { result ≡ selectable reference }
 {
     if BWDREF <= reference {
-        return reference <= ALTREF;
+        reference <= ALTREF
+    } else {
+        reference <= LAST2
     }
-    reference <= LAST2
 }
 
-fn well_cur(c: Ref2Cur) -> bool
+fn well_cur(c: Option<i16>) -> bool
     ensures { result ≡ well_cur c }
 {
-    match c {
-        Ref2Cur::Skipped => true,
-        Ref2Cur::At(z) => near(z),
-    }
+    c.is_none_or(|z| near(z))
 }
 
 // The seven together have a bit above the low five where one of them has: one test for all.

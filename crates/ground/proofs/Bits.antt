@@ -1,22 +1,23 @@
 -- Signed numbers as code holds them. A signed local holds bits, so a need speaks of `to_z w (of_z w z)`, which is z where z fits.
 -- Assumes nothing.
-use mathlib.Core.Path.{◌≡◌, refl, sym, ap, ap₂, ◌∙◌, subst, subst⁻¹}
+use mathlib.Core.Path.{◌≡◌, refl, sym, ap, ap₂, ◌∙◌, subst⁻¹}
 use mathlib.Core.Logic.{◌↔◌, ◌⊎◌, ⊎_elim}
-use mathlib.Core.Bool.{Bool, true, false}
+use mathlib.Core.Bool.{true}
 use mathlib.Core.List.{List}
-use Prim.Native.Nat.{ℕ, zero, suc, ◌+◌, ◌-◌, ◌*◌, ◌/◌, ◌%◌, ◌^◌, ◌≤◌, ◌<◌}
+use Prim.Native.Nat.{ℕ, zero, suc, ◌+◌, ◌*◌, ◌/◌, ◌%◌, ◌^◌, ◌≤◌, ◌<◌}
 use native.Mathlib.Nat.{add-zero}
 use native.Mathlib.Omega.{arith}
 use lib.Dec.{T, leb, eqb}
 use lib.IntN.{ℤ, pos, negsuc, neg_ℤ, nat_abs, ◌-ℤ◌, +ℤ_idl}
 use lib.ListN.{length, get_or}
-use lib.Signed.{mag, lt_z, non_neg}
+use lib.Signed.{mag}
 use mir.Syntax.{Width, w8, w16}
-use mir.Val.{SFits, bits, hbits, to_z, of_z}
-use mir.Facts.{to_z-of_z, to_z_pos, sfits_widen}
-use mir.ValLaws.{pow-bits}
-use borrow.Author.Tests.{ltb-true, eq-eqb, eqb-true}
-use Rattle.ground.specs.Sign.{signed, eq_z}
+use mir.Val.{SFits, hbits, to_z, of_z}
+use mir.Facts.{to_z-of_z, sfits_widen}
+use borrow.Author.Tests.{eq-eqb, eqb-true}
+use Rattle.std.proofs.Common.{int_eq}
+use Rattle.std.proofs.lemmas.Bool.Decides.{same_from_decides, Decides-int_eq}
+use Rattle.ground.specs.Sign.{eq_z}
 use Rattle.ground.specs.Put.{put}
 use Rattle.ground.specs.Twos.{twos8, twos16, bits8, bits16, byte_at, byte_of, half_at, half_of}
 use Rattle.ground.proofs.Picks.{agree}
@@ -48,10 +49,6 @@ fits_neg (pos zero) h = record { sfits = h }
 fits_neg (pos (suc n)) h = record { sfits = omega arith }
 fits_neg (negsuc n) h = record { sfits = h }
 
-pub fits_signed : {w : Width} (s : Bool) (m : ℕ) → m < 2 ^ hbits w → SFits w (signed s m)
-fits_signed true m h = fits_neg (pos m) h
-fits_signed false m h = record { sfits = h }
-
 -- `-x` of a local that holds z
 module _ (w : Width) (z : ℤ) (h : nat_abs z < 2 ^ hbits w) where
   pub minus-fits : SFits w (pos 0 -ℤ to_z w (of_z w z))
@@ -64,36 +61,6 @@ module _ (w : Width) (z : ℤ) (h : nat_abs z < 2 ^ hbits w) where
 module _ {w : Width} (w' : Width) {z : ℤ} (narrower : T (leb (hbits w) (hbits w'))) (fits : SFits w z) where
   pub widens : SFits w' (to_z w (of_z w z))
   widens = subst⁻¹ (SFits w') (to_z-of_z fits) (sfits_widen narrower fits)
-
--- what a test `z < 0` tells of the magnitude, and of the bits with each flipped, code's `!x`
-pub record Negative (w : Width) (z : ℤ) : Type 0 where
-  pub flipped : to_z w (2 ^ bits w - 1 - of_z w z) ≡ pos (nat_abs z - 1)
-  pub held : of_z w z ≡ 2 ^ bits w - nat_abs z
-  pub some : 0 < nat_abs z
-  pub most : nat_abs z ≤ 2 ^ hbits w
-
-pub negative : (w : Width) (z : ℤ) → SFits w z → lt_z (to_z w (of_z w z)) (pos 0) ≡ true → Negative w z
-negative w z f t = go z f (rw (to_z-of_z f) at t)
-  where
-    go : (z : ℤ) → SFits w z → lt_z z (pos 0) ≡ true → Negative w z
-    go (pos n) f t = let h : n < 0 = ltb-true n 0 t in absurd (omega arith)
-    go (negsuc n) f t =
-        let h : n < 2 ^ hbits w = f.sfits in
-        let e : 2 ^ bits w - 1 - (2 ^ bits w - suc n) ≡ n = omega (arith, pow-bits w) in
-        let e' : suc n - 1 ≡ n = omega arith in
-        record { flipped = ap (to_z w) e ∙ to_z_pos w h ∙ ap pos (sym e'); held = refl; some = omega arith; most = omega arith }
-
-pub record Positive (w : Width) (z : ℤ) : Type 0 where
-  pub sign : T (non_neg z)
-  pub held : of_z w z ≡ nat_abs z
-  pub most : nat_abs z < 2 ^ hbits w
-
-pub positive : (w : Width) (z : ℤ) → SFits w z → lt_z (to_z w (of_z w z)) (pos 0) ≡ false → Positive w z
-positive w z f t = go z f (rw (to_z-of_z f) at t)
-  where
-    go : (z : ℤ) → SFits w z → lt_z z (pos 0) ≡ false → Positive w z
-    go (pos n) f t = record { sign = tt; held = refl; most = f.sfits }
-    go (negsuc n) f t = absurd (subst T t tt)
 
 -- two that fit are equal where their bits are, as `==` compares them
 pub bits-same : {w : Width} {a b : ℤ} → SFits w a → SFits w b → of_z w a ≡ of_z w b → a ≡ b
@@ -114,6 +81,10 @@ eq_z-refl (negsuc a) = eq-eqb a a refl
 
 pub eq_z-is : (a b : ℤ) → a ≡ b ↔ eq_z a b ≡ true
 eq_z-is a b = (λ e. rw e (eq_z-refl b), eq_z-true a b)
+
+-- and as `==` of the library says it
+pub int_eq-is : (a b : ℤ) → int_eq a b ≡ eq_z a b
+int_eq-is a b = let i = eq_z-is a b in same_from_decides (int_eq a b) (eq_z a b) (Decides-int_eq a b) (i.1, i.0)
 
 pub bits-eq_z : {w : Width} {a b : ℤ} → SFits w a → SFits w b → eqb (of_z w a) (of_z w b) ≡ eq_z a b
 bits-eq_z {w} {a} {b} fa fb =

@@ -6,7 +6,7 @@ use Prim.Native.Nat.{ℕ, suc, ◌+◌, ◌*◌, ◌/◌, ◌%◌, ◌^◌, ◌�
 use native.Mathlib.Nat.{add-zero, div-div-eq-div-mul, div-add-mod'}
 use native.Mathlib.Numerals.{add-one}
 use native.Mathlib.Omega.{arith}
-use lib.ListN.{length, get_or, set, drop}
+use lib.ListN.{length, get_or, drop}
 use lib.Seq.{drop-cons, drop-length}
 use Rattle.ground.specs.Put.{put}
 use Rattle.ground.specs.Little.{four, four_at, four_bytes, fours}
@@ -26,18 +26,10 @@ four-whole n h =
     (ap (λ (k : ℕ). k * 256 + n / 65536 % 256) (sym (div-div-eq-div-mul n 65536 256)) ∙ div-add-mod' (n / 65536) 256)
     e
 
--- four bytes that were read as a number are its bytes
-pub bytes_back : (a b c d : ℕ) → a < 256 → b < 256 → c < 256 → d < 256 → four_bytes (four a b c d) ≡ a ∷ b ∷ c ∷ d ∷ []
-bytes_back a b c d h i j k =
-    let n = four a b c d in
-    let e : n % 256 ≡ a = omega arith in
-    let q : n / 256 ≡ b + 256 * c + 65536 * d = omega arith in
-    let r : n / 65536 ≡ c + 256 * d = omega arith in
-    let t : n / 16777216 ≡ d = omega arith in
-    let f : (b + 256 * c + 65536 * d) % 256 ≡ b = omega arith in
-    let g : (c + 256 * d) % 256 ≡ c = omega arith in
-    let m : d % 256 ≡ d = omega arith in
-    rw (e, q, r, t, f, g, m)
+-- the number whose four bytes are known
+pub four_is : (n a b c d : ℕ) → n < 2 ^ 32 → four_bytes n ≡ a ∷ b ∷ c ∷ d ∷ [] → n ≡ four a b c d
+four_is n a b c d h e =
+    sym (four-whole n h) ∙ ap (λ (l : List ℕ). four (get_or l 0 0) (get_or l 1 0) (get_or l 2 0) (get_or l 3 0)) e
 
 pub four-back : (l : List ℕ) (i n : ℕ) → i + 4 ≤ length l → n < 2 ^ 32 → four_at (put l i (four_bytes n)) i ≡ n
 four-back l i n h k =
@@ -59,15 +51,3 @@ fours-on s t at i ns h e =
 pub fours-done : (s : List ℕ) (at i : ℕ) (ns : List ℕ) → length ns ≤ i → i ≤ length ns → put s at (fours (drop i ns)) ≡ s
 unfolding fours put
 fours-done s at i ns h k = let e : i ≡ length ns = omega arith in rw (e, drop-length ns)
-
--- and one that lays bytes
-pub bytes_on : (s : List ℕ) (at i : ℕ) (bs : List ℕ) → i < length bs
-    → put (set s (at + i) (get_or bs i 0)) (at + (i + 1)) (drop (i + 1) bs) ≡ put s (at + i) (drop i bs)
-unfolding put
-bytes_on s at i bs h =
-    let k : at + (i + 1) ≡ suc (at + i) = omega arith in
-    rw (k, drop-cons bs i 0 h, add-one i)
-
-pub bytes-done : (s : List ℕ) (at i : ℕ) (bs : List ℕ) → length bs ≤ i → i ≤ length bs → put s at (drop i bs) ≡ s
-unfolding put
-bytes-done s at i bs h k = let e : i ≡ length bs = omega arith in rw (e, drop-length bs)

@@ -8,6 +8,7 @@ use native.Mathlib.Nat.{add-zero, zero-mul, suc-mul}
 use native.Mathlib.Numerals.{sub-one}
 use native.Mathlib.Omega.{arith}
 use lib.ListN.{length, get_or, set, length-set, length-append}
+use borrow.Rule.Slice.PartMut.{put_mid}
 use lib.Seq.{get_or-set_other, get_or-set_same}
 use Rattle.ground.specs.Put.{put, copies}
 
@@ -22,6 +23,21 @@ unfolding put
 put-append l i [] ys = rw add-zero
 put-append l i (x ∷ xs) ys =
     put-append (set l i x) (suc i) xs ys ∙ ap (λ (k : ℕ). put (put (set l i x) (suc i) xs) k ys) (omega arith)
+
+-- what a copy onto `s[i..i + length bs]` leaves
+put-past : (x : ℕ) (l : List ℕ) (i : ℕ) (bs : List ℕ) → put (x ∷ l) (suc i) bs ≡ x ∷ put l i bs
+unfolding put
+put-past x l i [] = refl
+put-past x l i (b ∷ bs) = put-past x (set l i b) (suc i) bs
+
+pub put-mid : (l : List ℕ) (i : ℕ) (bs : List ℕ) → i + length bs ≤ length l → put_mid i (length bs) l bs ≡ put l i bs
+unfolding put
+put-mid [] zero [] h = refl
+put-mid [] zero (b ∷ bs) h = absurd (omega arith)
+put-mid [] (suc i) bs h = absurd (omega arith)
+put-mid (x ∷ l) zero [] h = refl
+put-mid (x ∷ l) zero (b ∷ bs) h = ap (λ t. b ∷ t) (put-mid l zero bs (omega arith)) ∙ sym (put-past b l zero bs)
+put-mid (x ∷ l) (suc i) bs h = ap (λ t. x ∷ t) (put-mid l i bs (omega arith)) ∙ sym (put-past x l i bs)
 
 -- outside: as it was
 pub put-outside : (l : List ℕ) (i : ℕ) (bs : List ℕ) (j d : ℕ) → (j < i) ⊎ (i + length bs ≤ j) → get_or (put l i bs) j d ≡ get_or l j d

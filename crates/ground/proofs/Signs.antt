@@ -2,7 +2,7 @@
 -- keeps the sign.
 -- Assumes nothing.
 use mathlib.Core.Path.{◌≡◌, refl, sym, ap, ap₂, ◌∙◌}
-use mathlib.Core.Bool.{Bool, true, false, not, beq, true≢false, and-eq-true_iff}
+use mathlib.Core.Bool.{Bool, true, false, cond, not, beq, true≢false, and-eq-true_iff}
 use Prim.Native.Nat.{ℕ, zero, suc, ◌+◌, ◌*◌, ◌≤◌, zero-le, min}
 use native.Mathlib.Nat.{mul-zero, zero-mul}
 use native.Mathlib.Omega.{arith}
@@ -10,6 +10,7 @@ use lib.Dec.{ltb, leb}
 use lib.IntN.{ℤ, pos, negsuc, neg_ℤ, sub_ℕ, nat_abs, ◌+ℤ◌, ◌*ℤ◌}
 use lib.Signed.{lt_z, le_z}
 use borrow.Author.Tests.{le-ltb, lt-ltb, le-leb, leb-true}
+use Rattle.std.specs.Int.{int_max, int_min}
 use Rattle.ground.specs.Pick.{pick}
 use Rattle.ground.specs.Sign.{signed, below, on_mag, from_to, clip3}
 use Rattle.ground.proofs.Picks.{pick_true, pick-false, and-on, and-off}
@@ -137,6 +138,20 @@ ranged p q r t = ap₂ le_z q r ∙ sym (and-on (sym (ap₂ le_z p q) ∙ t))
 pub unranged : {a u lo z : ℤ} (hi : ℤ) → a ≡ lo → u ≡ z → le_z a u ≡ false → false ≡ from_to lo hi z
 unfolding from_to
 unranged {z = z} hi p q t = sym (and-off (le_z z hi) (sym (ap₂ le_z p q) ∙ t))
+
+-- the library's `clamp` to a range that starts below zero
+pub clip3-clamp : (k h : ℕ) (z : ℤ) → int_max (negsuc k) (int_min z (pos h)) ≡ clip3 (negsuc k) (pos h) z
+unfolding clip3
+clip3-clamp k h (pos n) = by (ltb h n)
+  where
+    by : (t : Bool) → int_max (negsuc k) (cond t (pos h) (pos n)) ≡ pick t (pos h) (pos n)
+    by true = refl
+    by false = refl
+clip3-clamp k h (negsuc n) = by (ltb k n)
+  where
+    by : (t : Bool) → cond t (negsuc k) (negsuc n) ≡ pick t (negsuc k) (negsuc n)
+    by true = refl
+    by false = refl
 
 -- what a range that starts at a natural number tells
 pub record From (lo : ℕ) (z : ℤ) : Type 0 where

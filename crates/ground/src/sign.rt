@@ -8,11 +8,10 @@ pub fn negative(c: i16) -> bool
     c < 0
 }
 
-// The flipped bits of a negative number are its magnitude less one: this holds at -32,768 too.
 pub fn magnitude(c: i16) -> u32
     ensures { result ≡ nat_abs c }
 {
-    if c < 0 { (!c) as u32 + 1 } else { c as u32 }
+    c.unsigned_abs() as u32
 }
 
 pub fn with_sign(minus: bool, m: u32) -> i16

@@ -8,10 +8,7 @@ pub fn put_size(s: &mut [u8], at: usize, n: usize)
     requires { at + 4 ≤ length s.old }
     ensures { s.new ≡ put s.old at (four_bytes n) }
 {
-    s[at] = (n % 256) as u8;
-    s[at + 1] = (n / 256 % 256) as u8;
-    s[at + 2] = (n / 65536 % 256) as u8;
-    s[at + 3] = (n / 16777216 % 256) as u8;
+    [s[at], s[at + 1], s[at + 2], s[at + 3], ..] = n.to_le_bytes();
 }
 
 pub fn put_u32(s: &mut [u8], at: usize, n: u32)
@@ -26,10 +23,8 @@ pub fn put_sizes(s: &mut [u8], at: usize, ns: &[usize])
     requires { at + 4 * length ns.now ≤ length s.old }
     ensures { s.new ≡ put s.old at (fours ns.now) }
 {
-    let mut i: usize = 0;
-    while i < ns.len() {
-        put_size(s, at + 4 * i, ns[i]);
-        i += 1;
+    for (i, n) in ns.iter().enumerate() {
+        put_size(s, at + 4 * i, *n);
     }
 }
 
@@ -37,9 +32,5 @@ pub fn put_bytes(s: &mut [u8], at: usize, bs: &[u8])
     requires { at + length bs.now ≤ length s.old }
     ensures { s.new ≡ put s.old at bs.now }
 {
-    let mut i: usize = 0;
-    while i < bs.len() {
-        s[at + i] = bs[i];
-        i += 1;
-    }
+    s[at..at + bs.len()].copy_from_slice(bs);
 }

@@ -92,7 +92,7 @@ module _ (h : Handed) (jobs : List ℕ) (k : ℕ) (proj saved : List ℕ) (lacks
       let m : n ≡ step_number h j = a ∙ ap (λ (x : Stepped). number_of x.answer) r ∙ number-back (step_number h j) in
       let z =
       turns.turned h (batch_of job_bytes jobs) k proj saved w
-      (r ∙ ap (told h) i)
+      (ap (λ (x : Stepped). x.answer) (r ∙ ap (told h) i)) refl
       (c ∙ ap (λ (x : Job). run (step_proj h x) proj) i)
       (d ∙ ap (λ (x : Job). run (step_saved h x) saved) i) in
       let y : n ≡ turn_number h (batch_of job_bytes jobs) k = m ∙ ap (step_number h) i ∙ sym (pick_true 12 w) in

@@ -3,16 +3,24 @@
 use mathlib.Core.Path.{◌≡◌, refl, sym, ap, ◌∙◌}
 use mathlib.Core.Bool.{true, false}
 use mathlib.Core.List.{List}
-use Prim.Native.Nat.{ℕ}
-use lib.ListN.{length}
+use Prim.Native.Nat.{ℕ, ◌<◌}
+use native.Mathlib.Omega.{arith}
+use lib.ListN.{length, get_or}
 use Rattle.ground.specs.Put.{put}
 use Rattle.ground.specs.Script.{run}
+use Rattle.ground.specs.Tab.{tab}
 use Rattle.ground.proofs.Answers.{run-refused}
+use Rattle.ground.proofs.Tabs.{tab-all, tab-cong}
 use Rattle.jobs.specs.declared.job.record.Batch.{Batch}
 use Rattle.order.specs.Desk.{Desk, desk}
 use Rattle.capture.specs.player.Played.{played_answer, played_desk}
 use Rattle.jaskkovir.specs.Captured.{short_steps, shown_answer, shown_desk, steps_of, shown_steps}
 use Rattle.jaskkovir.proofs.Lent.{written}
+
+-- a list of n elements that are by a rule
+pub tab-is : {A : Type 0} (d : A) (f : ℕ → A) (n : ℕ) (xs : List A) → length xs ≡ n → ((k : ℕ) → k < n → get_or xs k d ≡ f k) → xs ≡ tab f 0 n
+tab-is d f n xs e h =
+    sym (tab-all d xs n e) ∙ tab-cong (λ i. get_or xs i d) f 0 n (λ k a b. h k (omega arith))
 
 module _ (file proj saved l : List ℕ) where
   -- the four promises: l is the part lent for the steps

@@ -1,19 +1,21 @@
 // Jobs on lent bytes: admission of a batch, and a step of one of its jobs.
-ghost use Rattle.std.specs.Prelude.{◌≡◌, ◌&&◌, ◌+◌, ◌*◌, ◌≤◌, leb, ltb, length};
+ghost use Rattle.std.specs.Prelude.{◌≡◌, ℕ, ◌&&◌, ◌+◌, ◌*◌, ◌≤◌, leb, ltb, length};
 ghost use Rattle.ground.specs.Answer.{accepted};
 ghost use Rattle.ground.specs.Script.{run};
-ghost use Rattle.motion.specs.loading.Fields.{lent};
+ghost use Rattle.motion.specs.loading.Fields.{lent, all_lent};
+ghost use Rattle.jobs.specs.Inputs.{handed_with};
 ghost use Rattle.jobs.specs.job.Bytes.{job_bytes, jobs_in};
-ghost use Rattle.jaskkovir.specs.Batched.{admitted_answer, stepped_number, stepped_proj, stepped_saved, done_patch, stepped_jobs};
+ghost use Rattle.jaskkovir.specs.Batched.{handed_in, admitted_answer, stepped_number, stepped_proj, stepped_saved, done_patch, stepped_jobs};
 
 use crate::motions::load_lacks;
 use ground::write::put_size;
 use jobs::admit::admit;
+use jobs::inputs::Inputs;
 use jobs::job::job_bytes::{CAPTURE_JOB, JOB, batch_of, job_in};
 use jobs::step::{number_of, step_row};
 use layout::frame_bytes::frame_at;
-use layout::start::seven;
-use motion::loading::fields::{Lent, used_field};
+use layout::start::first_bytes;
+use motion::loading::fields::{Lent, LentFields};
 use motion::loading::used::uses_of;
 
 // Whether a batch of so many bytes can be stepped, and has a job k.
@@ -21,10 +23,7 @@ fn is_named(len: usize, k: usize) -> bool
     ensures { result ≡ (leb (jobs_in job_bytes len) 8 && ltb k (jobs_in job_bytes len)) }
 {
     let n = len / JOB;
-    if 8 < n {
-        return false;
-    }
-    k < n
+    n <= 8 && k < n
 }
 
 // Only a step that is counted is written down, behind the bytes that a capture file's job has.
@@ -34,6 +33,29 @@ fn write_down(jobs: &mut [u8], k: usize, number: u8, done: usize)
 {
     if number == 0 {
         put_size(jobs, JOB * k + CAPTURE_JOB, done);
+    }
+}
+
+// What the jobs read, of the parts that are lent.
+fn inputs_in<'a>(
+    frame: &[u8],
+    present: &[u8],
+    fields: LentFields<'a>,
+    records: &'a [u8],
+) -> Inputs<'a>
+    requires { (109 ≤ length frame.now) × (7 ≤ length present.now) }
+    ensures { (nproj nsaved : ℕ) → handed_with result nproj nsaved
+        ≡ handed_in frame.now present.now (all_lent fields.entry) records.now nproj nsaved }
+{
+    let frame = frame_at(frame);
+    let used = uses_of(frame);
+    Inputs {
+        frame,
+        lent: Lent {
+            form: first_bytes(present),
+        },
+        fields: fields.used(used),
+        recs: records,
     }
 }
 
@@ -60,22 +82,11 @@ pub fn jaskkovir_admit<'a>(
     if load_lacks(frame.len(), present.len()) {
         return 4;
     }
-    let f = frame_at(frame);
-    let us = uses_of(f);
-    let lent = Lent {
-        form: seven(present),
+    let fields = LentFields {
+        slices: [f0, f1, f2, f3, f4, f5, f6],
     };
-    admit(
-        f,
-        lent,
-        batch_of(jobs, JOB),
-        used_field(us, 0, f0, f1, f2, f3, f4, f5, f6),
-        used_field(us, 1, f0, f1, f2, f3, f4, f5, f6),
-        used_field(us, 2, f0, f1, f2, f3, f4, f5, f6),
-        records,
-        proj,
-        saved,
-    )
+    let inputs = inputs_in(frame, present, fields, records);
+    admit(&inputs, batch_of(jobs, JOB), proj, saved)
 }
 
 // Steps job k by one row of work. The answer is 0 where it is counted, DONE where nothing is left to
@@ -116,15 +127,11 @@ pub fn jaskkovir_step<'a>(
         return 12;
     }
     let job = job_in(jobs, k, JOB);
-    let f = frame_at(frame);
-    let us = uses_of(f);
-    let lent = Lent {
-        form: seven(present),
+    let fields = LentFields {
+        slices: [f0, f1, f2, f3, f4, f5, f6],
     };
-    let first = used_field(us, 0, f0, f1, f2, f3, f4, f5, f6);
-    let second = used_field(us, 1, f0, f1, f2, f3, f4, f5, f6);
-    let third = used_field(us, 2, f0, f1, f2, f3, f4, f5, f6);
-    let s = step_row(job, f, lent, first, second, third, records, proj, saved);
+    let inputs = inputs_in(frame, present, fields, records);
+    let s = step_row(job, &inputs, proj, saved);
     let answer = s.answer;
     let number = number_of(answer);
     write_down(jobs, k, number, s.done);

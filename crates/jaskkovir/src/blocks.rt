@@ -16,15 +16,11 @@ fn read_rows(tile: &[u8], total: usize, reach: usize, first: usize, n: usize) ->
     requires { (168 ≤ length tile.now) × (reach ≤ total) × (first + n < 2 ^ 64) }
     ensures { result ≡ rows_read (tile_at tile.now).rows total reach first n }
 {
-    let mut e = first;
-    let mut left = n;
-    while 0 < left {
+    for e in first..first + n {
         let a = read_row(entry_in(tile, e), total, reach);
         if a != 0 {
             return a;
         }
-        e += 1;
-        left -= 1;
     }
     0
 }
@@ -54,13 +50,9 @@ fn write_rows(records: &mut [u8], tile: &[u8], b: Splat)
         (row_patches (tile_at tile.now).rows b.block b.x.0 b.w.0 (first_entry b.y.0) b.h.0)
         records.old }
 {
-    let block = b.block;
-    let mut e = first_entry(b.y.0);
-    let mut left = b.h.0;
-    while 0 < left {
-        write_row(records, block, b.x.0, b.w.0, entry_in(tile, e));
-        e += 1;
-        left -= 1;
+    let first = first_entry(b.y.0);
+    for e in first..first + b.h.0 {
+        write_row(records, b.block, b.x.0, b.w.0, entry_in(tile, e));
     }
 }
 

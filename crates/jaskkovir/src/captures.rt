@@ -6,32 +6,18 @@ ghost use Rattle.jaskkovir.specs.Captured.{shown_answer, shown_desk, steps_of, s
 
 use capture::player::play::play_capture;
 use ground::write::put_sizes;
-use jobs::job::record::{Batch, Job};
+use jobs::job::record::Batch;
+use std::array;
 
 // Eight numbers of four bytes.
 const STEPS: usize = 32;
-
-fn steps_done(job: Job) -> usize
-    ensures { result ≡ job.done }
-{
-    job.done
-}
 
 fn put_steps(s: &mut [u8], batch: Batch)
     requires { 32 ≤ length s.old }
     ensures { s.new ≡ put s.old 0 (steps_of batch) }
 {
     let jobs = batch.jobs;
-    let numbers = [
-        steps_done(jobs[0]),
-        steps_done(jobs[1]),
-        steps_done(jobs[2]),
-        steps_done(jobs[3]),
-        steps_done(jobs[4]),
-        steps_done(jobs[5]),
-        steps_done(jobs[6]),
-        steps_done(jobs[7]),
-    ];
+    let numbers: [usize; 8] = array::from_fn(|i| jobs[i].done);
     put_sizes(s, 0, &numbers);
 }
 

@@ -1,6 +1,7 @@
 // Frame setup, the Rust's `rav1d_refmvs_init_frame`, the check of a record and the listed sizes, on
 // lent bytes.
 ghost use Rattle.std.specs.Prelude.{◌≡◌, true, ◌≤◌, length};
+ghost use Rattle.std.specs.Bool.{OnFalse};
 ghost use Rattle.ground.specs.Answer.{accepted};
 ghost use Rattle.ground.specs.Put.{put};
 ghost use Rattle.ground.specs.Script.{run};
@@ -15,7 +16,7 @@ use frame::extent::sizes::Sizes;
 use frame::hints::description::{Description, check_description};
 use ground::write::put_sizes;
 use layout::frame_bytes::{FRAME, put_frame, sizes_at, well_frame};
-use layout::start::{forty_nine, seven};
+use layout::start::first_bytes;
 
 const HINTS: usize = 7;
 
@@ -27,19 +28,12 @@ pub(crate) const PRESENT: usize = 7;
 const LISTED: usize = 12;
 
 // Lengths alone, so that a part that is too short is never read.
+#[tactic(auto, unfolding(crate::specs::Framed::init_lacks))]
 fn init_lacks(hints: usize, hints_by_ref: usize, present: usize, frame: usize) -> bool
-    ensures { result ≡ init_lacks hints hints_by_ref present frame }
+    ensures value { result ≡ init_lacks hints hints_by_ref present frame }
+    ensures room { OnFalse result ((7 ≤ hints) × (49 ≤ hints_by_ref) × (7 ≤ present) × (109 ≤ frame)) }
 {
-    if hints < HINTS {
-        return true;
-    }
-    if hints_by_ref < HINTS_BY_REF {
-        return true;
-    }
-    if present < PRESENT {
-        return true;
-    }
-    frame < FRAME
+    hints < HINTS || hints_by_ref < HINTS_BY_REF || present < PRESENT || frame < FRAME
 }
 
 // hints and held are d's, where they were lent.
@@ -88,8 +82,8 @@ pub fn jaskkovir_init_frame(
     if init_lacks(hints.len(), hints_by_ref.len(), present.len(), frame.len()) {
         return 4;
     }
-    let own = seven(hints);
-    let held = forty_nine(hints_by_ref);
+    let own = first_bytes(hints);
+    let held = first_bytes(hints_by_ref);
     let d = Description {
         width,
         height,
@@ -107,12 +101,13 @@ pub fn jaskkovir_init_frame(
         d,
         &hints[..HINTS],
         &hints_by_ref[..HINTS_BY_REF],
-        seven(present),
+        first_bytes(present),
         frame,
     )
 }
 
 // The answer to a record that comes back: 1 where it isn't one that setup can give.
+#[tactic(auto, unfolding(frame::specs::Record::check_answer))]
 fn check(frame: &[u8]) -> u8
     requires { 109 ≤ length frame.now }
     ensures { result ≡ check_answer (frame_at frame.now) }
@@ -120,6 +115,7 @@ fn check(frame: &[u8]) -> u8
     if well_frame(frame) { 0 } else { 1 }
 }
 
+#[tactic(auto, unfolding(crate::specs::Framed::checked))]
 pub fn jaskkovir_check(frame: &[u8]) -> u8
     ensures { result ≡ checked frame.now }
 {
@@ -129,23 +125,21 @@ pub fn jaskkovir_check(frame: &[u8]) -> u8
     check(frame)
 }
 
+#[tactic(auto, unfolding(crate::specs::Framed::listed_bytes))]
 fn put_listed(s: &mut [u8], z: Sizes)
     requires { (12 ≤ length s.old) × (well_sizes z ≡ true) }
     ensures { s.new ≡ put s.old 0 (listed_bytes z) }
 {
-    let saved = z.saved_cells();
-    let projected = z.projected_cells();
-    let numbers = [saved, projected, z.records()];
+    let numbers = [z.saved_cells(), z.projected_cells(), z.records()];
     put_sizes(s, 0, &numbers);
 }
 
+#[tactic(auto, unfolding(crate::specs::Framed::listed_lacks))]
 fn listed_lacks(frame: usize, sizes: usize) -> bool
-    ensures { result ≡ listed_lacks frame sizes }
+    ensures value { result ≡ listed_lacks frame sizes }
+    ensures room { OnFalse result ((109 ≤ frame) × (12 ≤ sizes)) }
 {
-    if frame < FRAME {
-        return true;
-    }
-    sizes < LISTED
+    frame < FRAME || sizes < LISTED
 }
 
 // How much a caller has to lend: cells of a saved field, cells of the projection, records.

@@ -1,5 +1,6 @@
 // Save and load of motion, on lent bytes.
-ghost use Rattle.std.specs.Prelude.{◌≡◌, length};
+ghost use Rattle.std.specs.Prelude.{◌≡◌, ◌≤◌, length};
+ghost use Rattle.std.specs.Bool.{OnFalse};
 ghost use Rattle.ground.specs.Script.{run};
 ghost use Rattle.motion.specs.loading.Fields.{lent};
 ghost use Rattle.jaskkovir.specs.Moved.{area, saved_answer, saved_script, load_lacks, loaded_answer, loaded_script};
@@ -7,13 +8,14 @@ ghost use Rattle.jaskkovir.specs.Moved.{area, saved_answer, saved_script, load_l
 use crate::frames::PRESENT;
 use cells::pos::Pos8;
 use layout::frame_bytes::{FRAME, frame_at};
-use layout::start::seven;
-use motion::loading::fields::{Lent, used_field};
+use layout::start::first_bytes;
+use motion::loading::fields::{Lent, LentFields};
 use motion::loading::load::load_tmvs;
 use motion::loading::used::uses_of;
 use motion::saving::area::Area;
 use motion::saving::save::save_tmvs;
 
+#[tactic(auto, unfolding(crate::specs::Moved::area))]
 pub(crate) fn area_of(tile: usize, left: usize, right: usize, top: usize, bottom: usize) -> Area
     ensures { result ≡ area tile left right top bottom }
 {
@@ -59,13 +61,12 @@ pub fn jaskkovir_save_tmvs(
 }
 
 // Lengths alone, so that a part that is too short is never read.
+#[tactic(auto, unfolding(crate::specs::Moved::load_lacks))]
 pub(crate) fn load_lacks(frame: usize, present: usize) -> bool
-    ensures { result ≡ load_lacks frame present }
+    ensures value { result ≡ load_lacks frame present }
+    ensures room { OnFalse result ((109 ≤ frame) × (7 ≤ present)) }
 {
-    if frame < FRAME {
-        return true;
-    }
-    present < PRESENT
+    frame < FRAME || present < PRESENT
 }
 
 // Loads the motion of the area's rows of cells into the projection, from the fields that present
@@ -100,15 +101,16 @@ pub fn jaskkovir_load_tmvs<'a>(
     let f = frame_at(frame);
     let us = uses_of(f);
     let lent = Lent {
-        form: seven(present),
+        form: first_bytes(present),
+    };
+    let fields = LentFields {
+        slices: [f0, f1, f2, f3, f4, f5, f6],
     };
     load_tmvs(
         f,
         area_of(tile_row, left, right, top, bottom),
         lent,
-        used_field(us, 0, f0, f1, f2, f3, f4, f5, f6),
-        used_field(us, 1, f0, f1, f2, f3, f4, f5, f6),
-        used_field(us, 2, f0, f1, f2, f3, f4, f5, f6),
+        fields.used(us),
         proj,
     )
 }

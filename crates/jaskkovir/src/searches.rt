@@ -1,5 +1,6 @@
 // The candidate search, on lent bytes.
-ghost use Rattle.std.specs.Prelude.{◌≡◌, length};
+ghost use Rattle.std.specs.Prelude.{◌≡◌, ◌≤◌, length};
+ghost use Rattle.std.specs.Bool.{OnFalse};
 ghost use Rattle.ground.specs.Script.{run};
 ghost use Rattle.jaskkovir.specs.Searched.{find_lacks, searched_answer, searched_stack, searched_found};
 
@@ -14,22 +15,12 @@ const STACK: usize = 96;
 const FOUND: usize = 2;
 
 // Lengths alone, so that a part that is too short is never read.
+#[tactic(auto, unfolding(crate::specs::Searched::find_lacks))]
 fn find_lacks(frame: usize, tile: usize, ask: usize, stack: usize, found: usize) -> bool
-    ensures { result ≡ find_lacks frame tile ask stack found }
+    ensures value { result ≡ find_lacks frame tile ask stack found }
+    ensures room { OnFalse result ((109 ≤ frame) × (168 ≤ tile) × (24 ≤ ask) × (96 ≤ stack) × (2 ≤ found)) }
 {
-    if frame < FRAME {
-        return true;
-    }
-    if tile < TILE {
-        return true;
-    }
-    if ask < ASK {
-        return true;
-    }
-    if stack < STACK {
-        return true;
-    }
-    found < FOUND
+    frame < FRAME || tile < TILE || ask < ASK || stack < STACK || found < FOUND
 }
 
 // Finds the candidates of a block. The answer is 0, and the stack and the two numbers are laid, or a
@@ -52,8 +43,7 @@ pub fn jaskkovir_find(
         ≡ run (searched_found frame.now tile.now records.now proj.now ask.now
         (length stack.old) (length found.old)) found.old }
 {
-    let lacks = find_lacks(frame.len(), tile.len(), ask.len(), stack.len(), found.len());
-    if lacks {
+    if find_lacks(frame.len(), tile.len(), ask.len(), stack.len(), found.len()) {
         return 4;
     }
     find_into(frame, tile, records, proj, ask, stack, found)

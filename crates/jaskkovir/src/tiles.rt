@@ -1,6 +1,7 @@
 // Superblock-row setup and splat, the Rust's `rav1d_refmvs_tile_sbrow_init` and `splat_mv`, on lent
 // bytes.
 ghost use Rattle.std.specs.Prelude.{◌≡◌, ◌≤◌, length};
+ghost use Rattle.std.specs.Bool.{OnFalse};
 ghost use Rattle.ground.specs.Answer.{accepted};
 ghost use Rattle.ground.specs.Script.{run};
 ghost use Rattle.rows.specs.Setup.{tile_of, rows_answer};
@@ -19,6 +20,7 @@ use rows::splats::splat::Splat;
 
 const BLOCK: usize = 12;
 
+#[tactic(auto, unfolding(rows::specs::Setup::rows_answer, layout::specs::FrameBytes::frame_at))]
 fn check_row(frame: &[u8], r: SbRow) -> u8
     requires { 109 ≤ length frame.now }
     ensures { result ≡ rows_answer (frame_at frame.now) r }
@@ -88,18 +90,15 @@ pub fn jaskkovir_tile_sbrow_init(
 }
 
 // Lengths alone, so that a part that is too short is never read.
+#[tactic(auto, unfolding(crate::specs::Tiled::splat_lacks))]
 fn splat_lacks(frame: usize, tile: usize, block: usize) -> bool
-    ensures { result ≡ splat_lacks frame tile block }
+    ensures value { result ≡ splat_lacks frame tile block }
+    ensures room { OnFalse result ((109 ≤ frame) × (168 ≤ tile) × (12 ≤ block)) }
 {
-    if frame < FRAME {
-        return true;
-    }
-    if tile < TILE {
-        return true;
-    }
-    block < BLOCK
+    frame < FRAME || tile < TILE || block < BLOCK
 }
 
+#[tactic(auto, unfolding(crate::specs::Tiled::splat_of))]
 fn splat_of(block: &[u8], y: usize, x: usize, w: usize, h: usize) -> Splat
     requires { 12 ≤ length block.now }
     ensures { result ≡ splat_of block.now y x w h }

@@ -2,6 +2,7 @@
 #![tactic(auto)]
 
 pub mod admit;
+pub mod inputs;
 pub mod job;
 pub mod step;
 pub mod work;

@@ -1,5 +1,6 @@
 -- A frame record that was laid down, and read again: what setup made comes back whole.
 -- Assumes nothing.
+use Rattle.std.specs.Prelude.{Option, None, Some}
 use mathlib.Core.Path.{◌≡◌, refl, ap, ◌∙◌}
 use mathlib.Core.Logic.{◌⊎◌, inl, inr}
 use mathlib.Core.Bool.{Bool, true, false, ◌&&◌}
@@ -25,8 +26,6 @@ use Rattle.frame.specs.declared.hints.description.Description.{Description}
 use Rattle.frame.specs.declared.extent.sizes.Sizes.{Sizes}
 use Rattle.frame.specs.declared.hints.distances.RefHint.{RefHint}
 use Rattle.frame.specs.declared.mfmv.Mfmv.{Mfmv}
-use Rattle.frame.specs.declared.mfmv.Ref2Cur.{Ref2Cur}
-use Rattle.frame.specs.declared.mfmv.Ref2Cur.TheVariants.{Skipped, At}
 use Rattle.frame.specs.declared.record.Frame.{Frame}
 use Rattle.frame.specs.hints.Description.{under, setup_answer, hint_at}
 use Rattle.frame.specs.hints.Distances.{seven, ref_hints, from_current, well_hint}
@@ -141,10 +140,10 @@ unmarked (negsuc n) h = ne_eqb n 32767 (λ e. absurd (omega arith))
 abbrev read_half : ℤ → ℤ
 read_half z = twos16 (bits16 z % 256 + 256 * (bits16 z / 256))
 
-cur-read : (c : Ref2Cur) → well_cur c ≡ true → cur_of (read_half (cur_number c)) ≡ c
+cur-read : (c : Option ℤ) → well_cur c ≡ true → cur_of (read_half (cur_number c)) ≡ c
 unfolding cur_of cur_number well_cur eq_z
-cur-read Skipped h = refl
-cur-read (At z) h =
+cur-read None h = refl
+cur-read (Some z) h =
     let k = leb-true (nat_abs z) 31 h in
     rw (half-read z (small z k), unmarked z k)
 

@@ -1,5 +1,6 @@
 -- A tile that was laid down, and read again: what superblock-row setup made comes back whole.
 -- Assumes nothing.
+use Rattle.std.specs.Prelude.{Option, None, Some}
 use mathlib.Core.Path.{◌≡◌, refl, sym, ap, ◌∙◌}
 use mathlib.Core.Bool.{Bool, true, false, ◌&&◌}
 use mathlib.Core.List.{List}
@@ -18,8 +19,6 @@ use Rattle.frame.specs.declared.record.Frame.{Frame}
 use Rattle.frame.specs.extent.Sizes.{records, well_sizes}
 use Rattle.frame.proofs.extent.Sizing.{fits, part-fits, eighths-most, blocks-most, records-most}
 use Rattle.frame.proofs.Records.{frame-sizes}
-use Rattle.rows.specs.declared.table.Place.{Place}
-use Rattle.rows.specs.declared.table.Place.TheVariants.{Absent, At}
 use Rattle.rows.specs.declared.setup.SbRow.{SbRow}
 use Rattle.ground.specs.Tab.{tab}
 use Rattle.rows.specs.Table.{none, table_of, place_at}
@@ -33,9 +32,9 @@ use Rattle.ground.proofs.Tabs.{tab-length, tab-cong, tab-all}
 use Rattle.layout.proofs.Places.{Agree, four_same, laid-agrees, fours-at}
 
 -- a place whose number is no mark
-Unmarked : Place → Type 0
-Unmarked Absent = Unit {0}
-Unmarked (At o) = o < absent_mark
+Unmarked : Option ℕ → Type 0
+Unmarked None = Unit {0}
+Unmarked (Some o) = o < absent_mark
 
 -- What the bytes of a tile can hold.
 pub record Holdable (t : Tile) : Type 0 where
@@ -47,15 +46,15 @@ pub record Holdable (t : Tile) : Type 0 where
   top : t.row.start.0 < 2 ^ 32
   bottom : t.row.end.0 < 2 ^ 32
 
-place_read : (p : Place) → Unmarked p → place_of (place_number p) ≡ p
+place_read : (p : Option ℕ) → Unmarked p → place_of (place_number p) ≡ p
 unfolding place_of place_number Unmarked
-place_read Absent h = refl
-place_read (At o) h = rw (ne_eqb o absent_mark (λ e. absurd (omega arith)))
+place_read None h = refl
+place_read (Some o) h = rw (ne_eqb o absent_mark (λ e. absurd (omega arith)))
 
-number_fits : (p : Place) → Unmarked p → place_number p < 2 ^ 32
+number_fits : (p : Option ℕ) → Unmarked p → place_number p < 2 ^ 32
 unfolding place_number Unmarked
-number_fits Absent h = omega arith
-number_fits (At o) h = omega arith
+number_fits None h = omega arith
+number_fits (Some o) h = omega arith
 
 module _ (t : Tile) (h : Holdable t) (l : List ℕ) (n : 168 ≤ length l) where
   long : length (tile_bytes t) ≡ 168
@@ -101,10 +100,10 @@ module _ (t : Tile) (h : Holdable t) (l : List ℕ) (n : 168 ≤ length l) where
       }
 
 -- What superblock-row setup makes where it accepts is such a tile, if the starts that it was handed fit four bytes.
-by_place : (p : Place) → ((o : ℕ) → p ≡ At o → o < absent_mark) → Unmarked p
+by_place : (p : Option ℕ) → ((o : ℕ) → p ≡ Some o → o < absent_mark) → Unmarked p
 unfolding Unmarked
-by_place Absent h = tt
-by_place (At o) h = h o refl
+by_place None h = tt
+by_place (Some o) h = h o refl
 
 module _ (f : Frame) (r : SbRow) (z : rows_answer f r ≡ 0) where
   well : well_sizes f.sizes ≡ true
@@ -113,10 +112,10 @@ module _ (f : Frame) (r : SbRow) (z : rows_answer f r ≡ 0) where
   inside : in_frame f.sizes r.tile ≡ true
   inside = (rows-accepted f r z).1
 
-  entry-small : (e o : ℕ) → e < 37 → (get_or (table_for f.sizes r.sby r.tile r.pass) e none).at ≡ At o → o < absent_mark
+  entry-small : (e o : ℕ) → e < 37 → (get_or (table_for f.sizes r.sby r.tile r.pass) e none).at ≡ Some o → o < absent_mark
   unfolding place_at records
   entry-small e o h k =
-      let there = pick_true Absent (lt-ltb e 37 h) ∙ k in
+      let there = pick_true None (lt-ltb e 37 h) ∙ k in
       let most = records-most f.sizes (fits f.sizes well) in
       omega (arith, row_listed f.sizes well r.sby r.tile r.pass e o inside there)
 

@@ -2,8 +2,11 @@
 -- Assumes nothing.
 use mathlib.Core.Path.{◌≡◌, refl, sym, ap, ◌∙◌}
 use mathlib.Core.List.{List, [], ◌∷◌, ◌++◌}
-use Prim.Native.Nat.{ℕ, ◌+◌}
-use lib.ListN.{length, set}
+use Prim.Native.Nat.{ℕ, zero, suc, ◌+◌, ◌-◌, ◌*◌, ◌≤◌, ◌<◌}
+use native.Mathlib.Nat.{add-zero}
+use native.Mathlib.Numerals.{add-one}
+use lib.ListN.{length, get_or, set, take, drop, length-take, length-drop}
+use Rattle.std.proofs.lemmas.List.{get_or-take, get_or-drop}
 use native.Mathlib.Omega.{arith}
 use lib.IntN.{ℤ}
 use Rattle.ground.specs.Put.{put}
@@ -44,3 +47,31 @@ all-seven (a ∷ b ∷ c ∷ d ∷ []) h = absurd (omega arith)
 all-seven (a ∷ b ∷ c ∷ d ∷ e ∷ []) h = absurd (omega arith)
 all-seven (a ∷ b ∷ c ∷ d ∷ e ∷ f ∷ []) h = absurd (omega arith)
 all-seven (a ∷ b ∷ c ∷ d ∷ e ∷ f ∷ g ∷ y ∷ ys) h = absurd (omega arith)
+
+-- seven bytes of a part
+part-at : (l : List ℕ) (i k : ℕ) → k < 7 → get_or (take 7 (drop i l)) k 0 ≡ get_or l (i + k) 0
+part-at l i k h = get_or-take 7 (drop i l) k 0 h ∙ get_or-drop i l k 0
+
+pub seven_from : (l : List ℕ) (i : ℕ) → i + 7 ≤ length l → take 7 (drop i l) ≡ offsets_at l i
+unfolding offsets_at
+seven_from l i h =
+    let p = λ (k : ℕ) (m : k < 7). part-at l i k m in
+    all-seven (take 7 (drop i l)) (omega (arith, length-take 7 (drop i l), length-drop i l))
+    ∙ rw (p 0 (omega arith) ∙ ap (λ (k : ℕ). get_or l k 0) (add-zero i), p 1 (omega arith), p 2 (omega arith), p 3 (omega arith), p 4 (omega arith), p 5 (omega arith), p 6 (omega arith))
+
+-- pieces of four bytes, one for each number from i on
+unfoldable pub fours_of : (ℕ → List ℕ) → (i n : ℕ) → List ℕ
+fours_of f i zero = []
+fours_of f i (suc n) = f i ++ fours_of f (suc i) n
+
+pub next_four : (s t : List ℕ) (f : ℕ → List ℕ) (at i n : ℕ) → i < n → length (f i) ≡ 4 → t ≡ put s (at + 4 * i) (f i)
+    → put t (at + 4 * (i + 1)) (fours_of f (i + 1) (n - (i + 1))) ≡ put s (at + 4 * i) (fours_of f i (n - i))
+unfolding fours_of
+next_four s t f at i n h four q =
+    let k : n - i ≡ suc (n - suc i) = omega arith in
+    let p : at + 4 * (i + 1) ≡ at + 4 * i + length (f i) = omega arith in
+    rw (p, add-one i, k, q) (sym (put-append s (at + 4 * i) (f i) (fours_of f (suc i) (n - suc i))))
+
+pub no_four : (s : List ℕ) (at : ℕ) (f : ℕ → List ℕ) (i n : ℕ) → n ≤ i → put s at (fours_of f i (n - i)) ≡ s
+unfolding fours_of put
+no_four s at f i n h = let k : n - i ≡ 0 = omega arith in rw k

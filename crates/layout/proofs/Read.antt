@@ -1,5 +1,6 @@
 -- What stands in the bytes of a frame and of a tile, part by part.
 -- Assumes nothing.
+use Rattle.std.specs.Prelude.{None}
 use mathlib.Core.Path.{◌≡◌, refl, sym, ap, ◌∙◌}
 use mathlib.Core.Bool.{Bool, true, false, not}
 use mathlib.Core.List.{List}
@@ -14,7 +15,6 @@ use Rattle.frame.specs.Record.{no_hint, well_frame}
 use Rattle.frame.specs.extent.Sizes.{well_sizes}
 use Rattle.frame.specs.declared.extent.sizes.Sizes.{Sizes}
 use Rattle.frame.proofs.Records.{frame-sizes}
-use Rattle.rows.specs.declared.table.Place.TheVariants.{Absent}
 use Rattle.rows.specs.declared.table.RowEntry.{RowEntry}
 use Rattle.rows.specs.Table.{none, place_at}
 use Rattle.rows.specs.declared.setup.SbRow.{SbRow}
@@ -50,7 +50,7 @@ unfolding tile_at
 entry_here l e h =
     sym (ap (λ (r : RowEntry). r.at) (tab-at (entry_in l) none 0 37 e h ∙ ap (entry_in l) (zero-add e))) ∙ entry-at (tile_at l).rows e h
 
-pub entry_past : (l : List ℕ) (e : ℕ) → 37 ≤ e → Absent ≡ place_at (tile_at l).rows e
+pub entry_past : (l : List ℕ) (e : ℕ) → 37 ≤ e → None ≡ place_at (tile_at l).rows e
 unfolding place_at
 entry_past l e h = sym (pick-false (get_or (tile_at l).rows e none).at (le-ltb e 37 h))
 

@@ -1,5 +1,6 @@
 -- The 109 bytes of a frame record, the low byte of a number first: twelve numbers of four bytes, use_ref_frame_mvs, temporal and n_mfmvs of one,
 -- seven hints of four bytes, three selected references of ten.
+use Rattle.std.specs.Prelude.{Option, None, Some}
 use Rattle.std.specs.Prelude.{ℕ, ◌+◌, ◌%◌, List, [], ◌∷◌, ◌++◌, ℤ, negsuc, get_or}
 use Rattle.ground.specs.Pick.{pick}
 use Rattle.ground.specs.Sign.{eq_z}
@@ -8,8 +9,6 @@ use Rattle.ground.specs.Little.{four_at, fours}
 use Rattle.frame.specs.declared.extent.sizes.Sizes.{Sizes}
 use Rattle.frame.specs.declared.hints.distances.RefHint.{RefHint}
 use Rattle.frame.specs.declared.mfmv.Mfmv.{Mfmv}
-use Rattle.frame.specs.declared.mfmv.Ref2Cur.{Ref2Cur}
-use Rattle.frame.specs.declared.mfmv.Ref2Cur.TheVariants.{Skipped, At}
 use Rattle.frame.specs.declared.record.Frame.{Frame}
 use Rattle.frame.specs.Record.{no_hint}
 use Rattle.frame.specs.Mfmv.{no_mfmv}
@@ -44,8 +43,8 @@ ref_hints_at l =
 abbrev pub skipped_mark : ℤ
 skipped_mark = negsuc 32767
 
-unfoldable pub cur_of : ℤ → Ref2Cur
-cur_of z = pick (eq_z z skipped_mark) Skipped (At z)
+unfoldable pub cur_of : ℤ → Option ℤ
+cur_of z = pick (eq_z z skipped_mark) None (Some z)
 
 unfoldable pub offsets_at : List ℕ → ℕ → List ℕ
 offsets_at l i =
@@ -80,9 +79,9 @@ hints_bytes hs =
     hint_bytes (get_or hs 0 no_hint) ++ (hint_bytes (get_or hs 1 no_hint) ++ (hint_bytes (get_or hs 2 no_hint) ++ (hint_bytes (get_or hs 3 no_hint)
     ++ (hint_bytes (get_or hs 4 no_hint) ++ (hint_bytes (get_or hs 5 no_hint) ++ hint_bytes (get_or hs 6 no_hint))))))
 
-unfoldable pub cur_number : Ref2Cur → ℤ
-cur_number Skipped = skipped_mark
-cur_number (At z) = z
+unfoldable pub cur_number : Option ℤ → ℤ
+cur_number None = skipped_mark
+cur_number (Some z) = z
 
 unfoldable pub mfmv_bytes : Mfmv → List ℕ
 mfmv_bytes m = m.reference ∷ (half_of (cur_number m.ref2cur) ++ offsets_at m.ref2ref 0)

@@ -1,10 +1,9 @@
 -- The 168 bytes of a tile, 42 numbers of four bytes, the low byte first: the 37 entries of its table, the start of its part of the projection,
 -- column start and end, row start and end.
+use Rattle.std.specs.Prelude.{Option, None, Some}
 use Rattle.std.specs.Prelude.{ℕ, ◌*◌, min, List, [], ◌∷◌, ◌++◌, eqb, get_or}
 use Rattle.ground.specs.Pick.{pick}
 use Rattle.ground.specs.Little.{four_at, four_bytes, fours}
-use Rattle.rows.specs.declared.table.Place.{Place}
-use Rattle.rows.specs.declared.table.Place.TheVariants.{Absent, At}
 use Rattle.rows.specs.declared.table.RowEntry.{RowEntry}
 use Rattle.rows.specs.declared.setup.TileRange.{TileRange}
 use Rattle.ground.specs.Tab.{tab}
@@ -15,12 +14,12 @@ use Rattle.rows.specs.Setup.{Tile}
 abbrev pub absent_mark : ℕ
 absent_mark = 4294967295
 
-unfoldable pub place_of : ℕ → Place
-place_of n = pick (eqb n absent_mark) Absent (At n)
+unfoldable pub place_of : ℕ → Option ℕ
+place_of n = pick (eqb n absent_mark) None (Some n)
 
-unfoldable pub place_number : Place → ℕ
-place_number Absent = absent_mark
-place_number (At o) = o
+unfoldable pub place_number : Option ℕ → ℕ
+place_number None = absent_mark
+place_number (Some o) = o
 
 -- The tile that any bytes hold.
 unfoldable pub entry_in : List ℕ → ℕ → RowEntry

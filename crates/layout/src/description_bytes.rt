@@ -3,31 +3,25 @@
 ghost use Rattle.std.specs.Prelude.{◌≡◌, ◌≤◌, length};
 ghost use Rattle.layout.specs.DescriptionBytes.{description_at};
 
-use crate::start::{forty_nine, seven};
+use crate::start::first_bytes;
 use frame::hints::description::Description;
 use ground::read::{one_at, two_at};
 
 pub const DESCRIPTION: usize = 67;
-
-fn small(b: u8) -> u32
-    ensures { result ≡ b }
-{
-    b as u32
-}
 
 // The description that the bytes hold, whatever they are: frame setup judges it.
 pub fn description_at(s: &[u8]) -> Description
     requires { 67 ≤ length s.now }
     ensures { result ≡ description_at s.now }
 {
-    let hints = seven(&s[7..]);
-    let hints_by_ref = forty_nine(&s[14..]);
+    let hints = first_bytes::<7>(&s[7..]);
+    let hints_by_ref = first_bytes::<49>(&s[14..]);
     Description {
         width: two_at(s, 0),
         height: two_at(s, 2),
         sb128: s[4],
-        hint_bits: small(s[5]),
-        current_hint: small(s[6]),
+        hint_bits: u32::from(s[5]),
+        current_hint: u32::from(s[6]),
         hints,
         hints_by_ref,
         tile_rows: one_at(s, 63),

@@ -11,17 +11,19 @@ ghost use Rattle.frame.specs.Record.{frame_of, no_hint, well_frame};
 ghost use Rattle.layout.specs.FrameBytes.{sizes_at, ref_hint_at, ref_hints_at, cur_of, offsets_at, mfmv_at, frame_at};
 ghost use Rattle.layout.specs.FrameBytes.{hint_bytes, hints_bytes, cur_number, mfmv_bytes, mfmvs_bytes, size_numbers, frame_bytes};
 
+use crate::start::first_bytes;
 use cells::pos::{Pos4, Pos8};
 use frame::extent::sizes::Sizes;
 use frame::hints::description::Description;
-use frame::hints::distances::{RefHint, flag, ref_hints};
+use frame::hints::distances::{RefHint, ref_hints};
 use frame::hints::select::{Selection, select};
-use frame::mfmv::{Mfmv, Ref2Cur, slot};
+use frame::mfmv::{Mfmv, slot};
 use frame::record::Frame;
 use frame::setup::sizes_for;
 use ground::read::size_at;
 use ground::twos::{read_half, write_half};
 use ground::write::{put_bytes, put_sizes};
+use std::array;
 
 pub const FRAME: usize = 109;
 
@@ -94,39 +96,20 @@ fn hints_at(s: &[u8]) -> [RefHint; 7]
     requires { 109 ≤ length s.now }
     ensures { result ≡ ref_hints_at s.now }
 {
-    [
-        hint_at(s, 51),
-        hint_at(s, 55),
-        hint_at(s, 59),
-        hint_at(s, 63),
-        hint_at(s, 67),
-        hint_at(s, 71),
-        hint_at(s, 75),
-    ]
+    array::from_fn(|i| hint_in(s, i))
 }
 
-fn cur_of(z: i16) -> Ref2Cur
+fn cur_of(z: i16) -> Option<i16>
     ensures { result ≡ cur_of z }
 {
-    if z == SKIPPED {
-        return Ref2Cur::Skipped;
-    }
-    Ref2Cur::At(z)
+    if z == SKIPPED { None } else { Some(z) }
 }
 
 fn offsets_at(s: &[u8], at: usize) -> [u8; 7]
     requires { at + 7 ≤ length s.now }
     ensures { result ≡ offsets_at s.now at }
 {
-    [
-        s[at],
-        s[at + 1],
-        s[at + 2],
-        s[at + 3],
-        s[at + 4],
-        s[at + 5],
-        s[at + 6],
-    ]
+    first_bytes(&s[at..])
 }
 
 fn mfmv_at(s: &[u8], at: usize) -> Mfmv
@@ -143,10 +126,12 @@ fn mfmv_at(s: &[u8], at: usize) -> Mfmv
     }
 }
 
-fn wide(b: u8) -> usize
-    ensures { result ≡ b }
+// Place i of the selected references.
+fn mfmv_in(s: &[u8], i: usize) -> Mfmv
+    requires { (109 ≤ length s.now) × (i < 3) }
+    ensures { result ≡ get_or (frame_at s.now).mfmvs i no_mfmv }
 {
-    b as usize
+    mfmv_at(s, 79 + 10 * i)
 }
 
 // The record that the bytes hold, whatever they are: whether setup can give it, its check says.
@@ -162,7 +147,7 @@ pub fn frame_at(s: &[u8]) -> Frame
         use_ref_frame_mvs: s[48],
         temporal: s[49],
         refs,
-        n_mfmvs: wide(s[50]),
+        n_mfmvs: usize::from(s[50]),
         mfmvs,
     }
 }
@@ -171,30 +156,14 @@ fn well_hints(s: &[u8]) -> bool
     requires { 109 ≤ length s.now }
     ensures { result ≡ all_below 7 (λ i. well_hint (get_or (ref_hints_at s.now) i no_hint)) }
 {
-    let mut i: usize = 0;
-    while i < 7 {
-        let h = hint_in(s, i);
-        if !h.well_formed() {
-            return false;
-        }
-        i += 1;
-    }
-    true
+    (0..7).all(|i| hint_in(s, i).well_formed())
 }
 
 fn well_mfmvs(s: &[u8]) -> bool
     requires { 109 ≤ length s.now }
     ensures { result ≡ all_below 3 (λ i. well_mfmv (get_or (frame_at s.now).mfmvs i no_mfmv)) }
 {
-    let mut i: usize = 0;
-    while i < 3 {
-        let m = mfmv_at(s, 79 + 10 * i);
-        if !m.well_formed() {
-            return false;
-        }
-        i += 1;
-    }
-    true
+    (0..3).all(|i| mfmv_in(s, i).well_formed())
 }
 
 // Whether the bytes are a record that setup can give: its check on each part where it stands, for
@@ -216,7 +185,7 @@ pub fn well_frame(s: &[u8]) -> bool
     if 3 < s[50] {
         return false;
     }
-    if well_hints(s) { well_mfmvs(s) } else { false }
+    well_hints(s) && well_mfmvs(s)
 }
 
 fn put_hint(s: &mut [u8], at: usize, h: RefHint)
@@ -232,21 +201,17 @@ fn put_hints(s: &mut [u8], refs: [RefHint; 7])
     requires { 109 ≤ length s.old }
     ensures { s.new ≡ put s.old 51 (hints_bytes refs) }
 {
-    put_hint(s, 51, refs[0]);
-    put_hint(s, 55, refs[1]);
-    put_hint(s, 59, refs[2]);
-    put_hint(s, 63, refs[3]);
-    put_hint(s, 67, refs[4]);
-    put_hint(s, 71, refs[5]);
-    put_hint(s, 75, refs[6]);
+    for (i, h) in refs.iter().enumerate() {
+        put_hint(s, 51 + 4 * i, *h);
+    }
 }
 
-fn cur_number(c: Ref2Cur) -> i16
+fn cur_number(c: Option<i16>) -> i16
     ensures { result ≡ cur_number c }
 {
     match c {
-        Ref2Cur::Skipped => SKIPPED,
-        Ref2Cur::At(z) => z,
+        None => SKIPPED,
+        Some(z) => z,
     }
 }
 
@@ -308,7 +273,7 @@ fn put_flags(s: &mut [u8], n: usize, temporal: u8)
     requires { 109 ≤ length s.old }
     ensures { s.new ≡ put s.old 48 (flag_of (ltb 0 n) ∷ temporal ∷ n % 256 ∷ []) }
 {
-    s[48] = flag(0 < n);
+    s[48] = u8::from(0 < n);
     s[49] = temporal;
     s[50] = (n % 256) as u8;
 }

@@ -12,24 +12,20 @@ ghost use Rattle.layout.specs.TileBytes.{absent_mark, place_of, place_number, en
 
 use crate::frame_bytes::sizes_at;
 use cells::pos::Pos4;
-use ground::bound::least;
 use ground::read::size_at;
 use ground::write::{put_size, put_sizes};
 use rows::setup::{SbRow, TileRange, part_start, proj_start};
-use rows::table::{Place, RowEntry, offset};
+use rows::table::{RowEntry, offset};
 
 pub const TILE: usize = 168;
 
 // Stands for a row that is absent: no record has that number.
 const ABSENT: usize = 4294967295;
 
-fn place_of(n: usize) -> Place
+fn place_of(n: usize) -> Option<usize>
     ensures { result ≡ place_of n }
 {
-    if n == ABSENT {
-        return Place::Absent;
-    }
-    Place::At(n)
+    if n == ABSENT { None } else { Some(n) }
 }
 
 // One of the 37 entries.
@@ -49,7 +45,7 @@ pub fn entry_in(s: &[u8], e: usize) -> RowEntry
     if e < 37 {
         return entry_at(s, e);
     }
-    RowEntry { at: Place::Absent }
+    RowEntry { at: None }
 }
 
 // The first cell of the tile row's part of the projection.
@@ -84,12 +80,12 @@ pub fn rows_at(s: &[u8]) -> TileRange
     range_at(s, 160, 164)
 }
 
-fn number_of(p: Place) -> usize
+fn number_of(p: Option<usize>) -> usize
     ensures { result ≡ place_number p }
 {
     match p {
-        Place::Absent => ABSENT,
-        Place::At(o) => o,
+        None => ABSENT,
+        Some(o) => o,
     }
 }
 
@@ -106,10 +102,8 @@ fn put_absent(s: &mut [u8])
     requires { 148 ≤ length s.old }
     ensures { s.new ≡ put s.old 0 (copies 37 (entry_bytes none)) }
 {
-    let mut e: usize = 0;
-    while e < 37 {
-        put_entry(s, e, RowEntry { at: Place::Absent });
-        e += 1;
+    for e in 0..37 {
+        put_entry(s, e, RowEntry { at: None });
     }
 }
 
@@ -118,12 +112,14 @@ fn put_rows(s: &mut [u8], at: usize, n: usize, first: usize, stride: usize)
     requires { (4 * (at + n) ≤ length s.old) × (first + n * stride < 2 ^ 64) }
     ensures { s.new ≡ put s.old (4 * at) (fours (tab (λ i. first + i * stride) 0 n)) }
 {
-    let mut r = first;
-    let mut i: usize = 0;
-    while i < n {
-        put_entry(s, at + i, RowEntry { at: Place::At(r) });
-        r += stride;
-        i += 1;
+    for i in 0..n {
+        put_entry(
+            s,
+            at + i,
+            RowEntry {
+                at: Some(first + i * stride),
+            },
+        );
     }
 }
 
@@ -135,21 +131,9 @@ fn put_three(s: &mut [u8], at: usize, r: usize, step: usize)
 {
     let second = r + step;
     let third = r + 2 * step;
-    put_entry(s, at, RowEntry { at: Place::At(r) });
-    put_entry(
-        s,
-        at + 2,
-        RowEntry {
-            at: Place::At(second),
-        },
-    );
-    put_entry(
-        s,
-        at + 4,
-        RowEntry {
-            at: Place::At(third),
-        },
-    );
+    put_entry(s, at, RowEntry { at: Some(r) });
+    put_entry(s, at + 2, RowEntry { at: Some(second) });
+    put_entry(s, at + 4, RowEntry { at: Some(third) });
 }
 
 // The table, written where it is to stand, and in parts: a rule that is asked for each entry takes
@@ -179,9 +163,9 @@ fn put_bounds(s: &mut [u8], proj: usize, col: TileRange, row: TileRange)
 {
     let numbers = [
         proj,
-        least(col.start.0, ABSENT),
+        col.start.0.min(ABSENT),
         col.end.0,
-        least(row.start.0, ABSENT),
+        row.start.0.min(ABSENT),
         row.end.0,
     ];
     put_sizes(s, 148, &numbers);

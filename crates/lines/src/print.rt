@@ -1,6 +1,5 @@
 // Lines of words and decimal numbers on standard output. A line is a start, any words and numbers,
 // an end.
-use ground::sign::{magnitude, negative};
 use std::io;
 
 // A number that a line starts with: a kind or an answer, and these are bytes.
@@ -25,18 +24,12 @@ pub fn number(rt: &impl Print, n: u64) -> io::Result<()> {
 }
 
 pub fn signed(rt: &impl Print, c: i16) -> io::Result<()> {
-    let m = magnitude(c);
-    if negative(c) {
-        return print!(rt; " -{m}");
-    }
-    print!(rt; " {m}")
+    print!(rt; " {c}")
 }
 
 // A motion cell's numbers: the vector's y and x, and the reference or distance.
 pub fn motion(rt: &impl Print, y: i16, x: i16, reference: i8) -> io::Result<()> {
-    signed(rt, y)?;
-    signed(rt, x)?;
-    signed(rt, reference as i16)
+    print!(rt; " {y} {x} {reference}")
 }
 
 // What stands for a number that isn't there.

@@ -12,6 +12,8 @@ pub fn read_full(input: &mut impl Read, buffer: &mut [u8]) -> io::Result<usize>
     ensures length_kept { length buffer.new ≡ length buffer.old }
 {
     let mut done: usize = 0;
+
+    // Stays `while`: each step goes on by what was read.
     while done < buffer.len() {
         let n = input.read(&mut buffer[done..])?;
         if n == 0 {

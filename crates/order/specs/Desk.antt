@@ -6,6 +6,8 @@ use Rattle.frame.specs.declared.record.Frame.{Frame}
 use Rattle.motion.specs.declared.loading.fields.Lent.{Lent}
 use Rattle.motion.specs.loading.Fields.{Sources, cells_in}
 use Rattle.jobs.specs.declared.job.record.Batch.{Batch}
+use Rattle.jobs.specs.declared.inputs.Inputs.{Inputs}
+use Rattle.jobs.specs.Inputs.{used_fields}
 use Rattle.jobs.specs.Admit.{Handed, handed}
 use Rattle.order.specs.steps.Turn.{turn_number, turn_batch, turn_proj, turn_saved}
 
@@ -22,6 +24,10 @@ sources_by g = cells_in g.fields g.frame
 
 abbrev pub given : Frame → Lent → List (List ℕ) → List ℕ → Given
 given f l fields recs = record { frame = f; lent = l; fields = fields; recs = recs }
+
+-- as the code holds them
+abbrev pub given_by : Inputs → Given
+given_by i = given i.frame i.lent (used_fields i) i.recs.now
 
 pub record Desk : Type 0 where
   pub batch : Batch

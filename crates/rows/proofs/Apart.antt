@@ -17,8 +17,7 @@ use Rattle.ground.proofs.Products.{row_fits}
 use Rattle.frame.specs.declared.extent.sizes.Sizes.{Sizes}
 use Rattle.frame.specs.extent.Sizes.{superblock, part_of, records, well_sizes}
 use Rattle.frame.proofs.extent.Sizing.{fits, part-fits}
-use Rattle.rows.specs.declared.table.Place.{Place}
-use Rattle.rows.specs.declared.table.Place.TheVariants.{Absent, At}
+use Rattle.std.specs.Prelude.{Option, None, Some}
 use Rattle.rows.specs.Table.{row_of, partner, offset_of, row_at, placed, entry_at, table_of, place_at}
 use Rattle.rows.specs.Setup.{pass_start, part_start, odd_row, table_for, in_frame}
 use Rattle.rows.proofs.Tabled.{sides, entry}
@@ -31,9 +30,9 @@ line_of n odd j =
     offset_of n odd + pick odd (partner n line) line
 
 -- one of the 35 rows of the part, and its own entry's
-own_row : ℕ → Bool → ℕ → Place → Bool
-own_row n odd e Absent = true
-own_row n odd e (At j) = ltb j (n + 3) && eqb (line_of n odd j) e
+own_row : ℕ → Bool → ℕ → Option ℕ → Bool
+own_row n odd e None = true
+own_row n odd e (Some j) = ltb j (n + 3) && eqb (line_of n odd j) e
 
 all_own : (n : ℕ) (odd : Bool) → (n ≡ 16) ⊎ (n ≡ 32) → all_below 37 (λ e. own_row n odd e (row_at n odd e)) ≡ true
 unfolding all_below row_at row_of partner offset_of line_of own_row
@@ -46,7 +45,7 @@ record Own (n : ℕ) (odd : Bool) (e j : ℕ) : Type 0 where
   low : j < n + 3
   line : line_of n odd j ≡ e
 
-own : (n : ℕ) (odd : Bool) (e j : ℕ) → superblock n ≡ true → e < 37 → row_at n odd e ≡ At j → Own n odd e j
+own : (n : ℕ) (odd : Bool) (e j : ℕ) → superblock n ≡ true → e < 37 → row_at n odd e ≡ Some j → Own n odd e j
 unfolding own_row
 own n odd e j s h k =
     let t : own_row n odd e (row_at n odd e) ≡ true = belows.at (λ i. own_row n odd i (row_at n odd i)) 37 e (all_own n odd (sides n s)) h in
@@ -58,20 +57,20 @@ record Present (n : ℕ) (odd : Bool) (first stride e a : ℕ) : Type 0 where
   row : ℕ
   is : a ≡ first + row * stride
   small : e < 37
-  here : row_at n odd e ≡ At row
+  here : row_at n odd e ≡ Some row
 
 -- tells the cases apart
-abbrev number : Place → ℕ
-number Absent = 0
-number (At a) = suc a
+abbrev number : Option ℕ → ℕ
+number None = 0
+number (Some a) = suc a
 
-present : (n : ℕ) (odd : Bool) (first stride e a : ℕ) → place_at (table_of n odd first stride) e ≡ At a → Present n odd first stride e a
+present : (n : ℕ) (odd : Bool) (first stride e a : ℕ) → place_at (table_of n odd first stride) e ≡ Some a → Present n odd first stride e a
 unfolding entry_at placed place_at
 present n odd first stride e a h = by (which 36 e)
   where
-    found : (p : Place) → row_at n odd e ≡ p → e < 37 → (placed first stride p).at ≡ At a → Present n odd first stride e a
-    found Absent k l q = let z : ◌≡◌ {A = ℕ} 0 (suc a) = ap number q in absurd (omega arith)
-    found (At j) k l q =
+    found : (p : Option ℕ) → row_at n odd e ≡ p → e < 37 → (placed first stride p).at ≡ Some a → Present n odd first stride e a
+    found None k l q = let z : ◌≡◌ {A = ℕ} 0 (suc a) = ap number q in absurd (omega arith)
+    found (Some j) k l q =
         let z : suc (first + j * stride) ≡ suc a = ap number q in
         record { row = j; is = omega arith; small = l; here = k }
 
@@ -92,7 +91,7 @@ rows-part first stride j k h = by (which j k)
 
 -- The table of a superblock row of tile row t in pass p: an entry that is present stands at a.
 abbrev pub Stands : Sizes → (sby tile pass e a : ℕ) → Type 0
-Stands s sby tile pass e a = place_at (table_for s sby tile pass) e ≡ At a
+Stands s sby tile pass e a = place_at (table_for s sby tile pass) e ≡ Some a
 
 module _ (s : Sizes) (well : well_sizes s ≡ true) where
   -- it is a whole row of the tile row's part

@@ -14,8 +14,7 @@ use Rattle.ground.specs.Pick.{pick}
 use Rattle.ground.proofs.Picks.{both, pick_true}
 use Rattle.ground.proofs.Tabs.{tab-at}
 use Rattle.frame.specs.extent.Sizes.{superblock}
-use Rattle.rows.specs.declared.table.Place.{Place}
-use Rattle.rows.specs.declared.table.Place.TheVariants.{Absent, At}
+use Rattle.std.specs.Prelude.{Option, None, Some}
 use Rattle.rows.specs.declared.table.RowEntry.{RowEntry}
 use Rattle.rows.specs.Table.{none, row_of, partner, offset_of, row_at, entry_at, table_of, place_at}
 
@@ -46,16 +45,16 @@ off-fits n odd e = by odd (sides n e)
     by false (inr e) = omega arith
 
 -- an entry stands for one of n + 3 rows
-abbrev Low : ℕ → Place → Type 0
-Low n Absent = Unit
-Low n (At j) = j ≤ n + 2
+abbrev Low : ℕ → Option ℕ → Type 0
+Low n None = Unit
+Low n (Some j) = j ≤ n + 2
 
 line_low : (n e : ℕ) → Low n (row_of n e)
 unfolding row_of
 line_low n e = by (eqb e 0) (eqb e 2) (eqb e 4) (leb 5 e && ltb e (n + 5)) refl
   where
     by : (a b c d : Bool) → (leb 5 e && ltb e (n + 5)) ≡ d
-        → Low n (pick a (At n) (pick b (At (n + 1)) (pick c (At (n + 2)) (pick d (At (e - 5)) Absent))))
+        → Low n (pick a (Some n) (pick b (Some (n + 1)) (pick c (Some (n + 2)) (pick d (Some (e - 5)) None))))
     by true b c d h = omega arith
     by false true c d h = omega arith
     by false false true d h = omega arith
@@ -66,14 +65,14 @@ row_low : (n : ℕ) (odd : Bool) (e : ℕ) → Low n (row_at n odd e)
 unfolding row_at
 row_low n odd e = by (ltb e (offset_of n odd))
   where
-    by : (b : Bool) → Low n (pick b Absent (row_of n (pick odd (partner n (e - offset_of n odd)) (e - offset_of n odd))))
+    by : (b : Bool) → Low n (pick b None (row_of n (pick odd (partner n (e - offset_of n odd)) (e - offset_of n odd))))
     by true = tt
     by false = line_low n (pick odd (partner n (e - offset_of n odd)) (e - offset_of n odd))
 
 -- so its place is no larger a number than the last row's
-pub row-most : (n : ℕ) (odd : Bool) (e stride : ℕ) {p : Place} {j : ℕ} → p ≡ row_at n odd e → p ≡ At j → j * stride ≤ n * stride + 2 * stride
+pub row-most : (n : ℕ) (odd : Bool) (e stride : ℕ) {p : Option ℕ} {j : ℕ} → p ≡ row_at n odd e → p ≡ Some j → j * stride ≤ n * stride + 2 * stride
 row-most n odd e stride {j = j} r a =
-    let l : Low n (At j) = subst (Low n) (sym r ∙ a) (row_low n odd e) in
+    let l : Low n (Some j) = subst (Low n) (sym r ∙ a) (row_low n odd e) in
     omega (arith, mul-le-mul_right stride l, add-mul n 2 stride)
 
 pub entry : (n : ℕ) (odd : Bool) (first stride k : ℕ) → k < 37 → place_at (table_of n odd first stride) k ≡ (entry_at n odd first stride k).at
@@ -84,4 +83,4 @@ entry n odd first stride k h =
 -- an entry of the table is a place
 pub entry-at : (rows : List RowEntry) (e : ℕ) → e < 37 → (get_or rows e none).at ≡ place_at rows e
 unfolding place_at
-entry-at rows e h = sym (pick_true Absent (lt-ltb e 37 h))
+entry-at rows e h = sym (pick_true None (lt-ltb e 37 h))

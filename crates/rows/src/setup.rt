@@ -8,7 +8,6 @@ ghost use Rattle.rows.specs.Setup.{pass_start, part_start, table_for, cut_to, or
 use crate::table::{RowEntry, entry_at};
 use cells::pos::Pos4;
 use frame::extent::sizes::Sizes;
-use ground::bound::least;
 
 // From start to before end.
 #[derive(Clone, Copy)]
@@ -19,7 +18,7 @@ pub struct TileRange {
 
 // A superblock row as a decoder comes to it: the tile's bounds, the superblock row's number, the
 // tile row's, and pass 1 or 2: a second pass over a frame has records of its own where frames are
-// decoded at once.
+// decoded at once. Stays a number: C hands it over, and `rows_answer` refuses any other with 12.
 #[derive(Clone, Copy)]
 pub struct SbRow {
     pub col: TileRange,
@@ -39,16 +38,15 @@ impl TileRange {
     pub fn cut_to(self, most: Pos4) -> TileRange
         ensures { result ≡ cut_to most.0 self }
     {
-        let start = self.start;
-        let end = Pos4(least(self.end.0, most.0));
-        TileRange { start, end }
+        let end = Pos4(self.end.0.min(most.0));
+        TileRange { end, ..self }
     }
 }
 
 pub fn is_pass(pass: usize) -> bool
     ensures { result ≡ is_pass pass }
 {
-    if pass == 1 { true } else { pass == 2 }
+    pass == 1 || pass == 2
 }
 
 pub fn in_frame(s: Sizes, tile: usize) -> bool
@@ -61,25 +59,18 @@ pub fn in_frame(s: Sizes, tile: usize) -> bool
 pub fn is_tile(s: Sizes, r: SbRow) -> bool
     ensures { result ≡ (ordered r.col && ordered r.row && in_frame s r.tile) }
 {
-    if !r.col.is_ordered() {
-        return false;
-    }
-    if !r.row.is_ordered() {
-        return false;
-    }
-    in_frame(s, r.tile)
+    r.col.is_ordered() && r.row.is_ordered() && in_frame(s, r.tile)
 }
 
 fn pass_start(s: Sizes, pass: usize) -> usize
     requires { well_sizes s ≡ true }
     ensures { result ≡ pass_start s pass }
 {
-    if 1 < s.n_frame_threads {
-        if pass == 2 {
-            return 70 * s.n_blocks;
-        }
+    if 1 < s.n_frame_threads && pass == 2 {
+        70 * s.n_blocks
+    } else {
+        0
     }
-    0
 }
 
 // The first record of a tile row's part, in a pass.

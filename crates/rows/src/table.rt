@@ -7,16 +7,11 @@ ghost use Rattle.frame.specs.extent.Sizes.{superblock};
 ghost use Rattle.rows.specs.Table as tables;
 ghost use Rattle.rows.specs.Table.{row_of, offset_of, row_at, entry_at};
 
-// The number of a row's first record.
-#[derive(Clone, Copy)]
-pub enum Place {
-    Absent,
-    At(usize),
-}
-
+// The number of a row's first record, none where the row is absent.
+// Keeps its struct: `none`, `there`, `table_of` and `Tile` of specs/ speak of it.
 #[derive(Clone, Copy)]
 pub struct RowEntry {
-    pub at: Place,
+    pub at: Option<usize>,
 }
 
 // Where the superblock row's own part of the table starts: an odd row of small superblocks has the
@@ -24,35 +19,22 @@ pub struct RowEntry {
 pub fn offset(sbsz: usize, odd: bool) -> usize
     ensures { result ≡ offset_of sbsz odd }
 {
-    if odd {
-        if sbsz == 16 { 16 } else { 0 }
-    } else {
-        0
-    }
+    if odd && sbsz == 16 { 16 } else { 0 }
 }
 
 // Line e of that part, as the number of a row in the buffer: behind the superblock row's own rows
 // lie the three above.
-fn row_of(sbsz: usize, e: usize) -> Place
+fn row_of(sbsz: usize, e: usize) -> Option<usize>
     requires { sbsz ≤ 32 }
     ensures { result ≡ row_of sbsz e }
 {
-    if e == 0 {
-        return Place::At(sbsz);
+    match e {
+        0 => Some(sbsz),
+        2 => Some(sbsz + 1),
+        4 => Some(sbsz + 2),
+        _ if 5 <= e && e < sbsz + 5 => Some(e - 5),
+        _ => None,
     }
-    if e == 2 {
-        return Place::At(sbsz + 1);
-    }
-    if e == 4 {
-        return Place::At(sbsz + 2);
-    }
-    if e < 5 {
-        return Place::Absent;
-    }
-    if e < sbsz + 5 {
-        return Place::At(e - 5);
-    }
-    Place::Absent
 }
 
 // The last rows of one superblock row are the rows above of the next: on an odd row their lines have
@@ -61,36 +43,23 @@ fn partner(sbsz: usize, e: usize) -> usize
     requires { sbsz ≤ 32 }
     ensures { result ≡ tables.partner sbsz e }
 {
-    if e == 0 {
-        return sbsz;
+    match e {
+        0 => sbsz,
+        2 => sbsz + 2,
+        4 => sbsz + 4,
+        _ if e == sbsz => 0,
+        _ if e == sbsz + 2 => 2,
+        _ if e == sbsz + 4 => 4,
+        _ => e,
     }
-    if e == 2 {
-        return sbsz + 2;
-    }
-    if e == 4 {
-        return sbsz + 4;
-    }
-    if e == sbsz {
-        return 0;
-    }
-    if e == sbsz + 2 {
-        return 2;
-    }
-    if e == sbsz + 4 { 4 } else { e }
 }
 
-fn row_at(sbsz: usize, odd: bool, e: usize) -> Place
+fn row_at(sbsz: usize, odd: bool, e: usize) -> Option<usize>
     requires { sbsz ≤ 32 }
     ensures { result ≡ row_at sbsz odd e }
 {
-    let off = offset(sbsz, odd);
-    if e < off {
-        return Place::Absent;
-    }
-    if odd {
-        return row_of(sbsz, partner(sbsz, e - off));
-    }
-    row_of(sbsz, e - off)
+    let line = e.checked_sub(offset(sbsz, odd))?;
+    row_of(sbsz, if odd { partner(sbsz, line) } else { line })
 }
 
 // Entry e, where the rows of the buffer start at record first and lie stride records apart.
@@ -98,10 +67,6 @@ pub(crate) fn entry_at(sbsz: usize, odd: bool, first: usize, stride: usize, e: u
     requires { (superblock sbsz ≡ true) × (first + sbsz * stride + 2 * stride < 2 ^ 64) }
     ensures { result ≡ entry_at sbsz odd first stride e }
 {
-    match row_at(sbsz, odd, e) {
-        Place::Absent => RowEntry { at: Place::Absent },
-        Place::At(j) => RowEntry {
-            at: Place::At(first + j * stride),
-        },
-    }
+    let at = row_at(sbsz, odd, e).map(|j| first + j * stride);
+    RowEntry { at }
 }

@@ -7,9 +7,8 @@ use Prim.Native.Nat.{ℕ, ◌≤◌, ◌<◌}
 use lib.ListN.{length}
 use borrow.Author.Tests.{ne_eqb, le-leb, lt-leb}
 use Rattle.cells.specs.declared.cell.Ref.{Ref}
-use Rattle.cells.specs.declared.block.MvPair.{MvPair}
-use Rattle.cells.specs.declared.block.RefPair.{RefPair}
-use Rattle.frame.specs.declared.record.Frame.{Frame}
+use Rattle.cells.specs.Block.{MvPair}
+use Rattle.cells.specs.Block.{RefPair}
 use Rattle.spatial.specs.declared.site.block.Site.{Site}
 use Rattle.spatial.specs.site.Site.{depth_of}
 use Rattle.spatial.specs.Code.Site.{Placed}
@@ -17,7 +16,6 @@ use Rattle.spatial.specs.declared.neighbours.read.Line.{Line}
 use Rattle.spatial.specs.declared.neighbours.read.NeighbourRead.{NeighbourRead}
 use Rattle.spatial.specs.neighbours.Neighbour.{line_at}
 use Rattle.spatial.specs.around.Lines.{near_line}
-use Rattle.spatial.specs.Code.Around.{Lent}
 use Rattle.spatial.proofs.around.Places.{near_down, near-room}
 use Rattle.stack.specs.Stack.{State}
 use Rattle.stack.specs.Code.Found.{Found, view, outcome}
@@ -28,22 +26,15 @@ use Rattle.cells.specs.Cell.{is_ref}
 use Rattle.search.specs.extra.Pool.{Both, nothing, pair_at, completed}
 use Rattle.search.specs.Code.Pool.{pools_of}
 use Rattle.search.specs.extra.Walk.{Gathering, single_on, compound_on}
-use Rattle.search.specs.Code.Walk.{pooled}
-use Rattle.search.specs.Code.Walk as code
+use Rattle.search.specs.Code.Walk.{pooled, Walked}
 use Rattle.search.proofs.extra.Walks.{is-gathered, is-stopped}
-use Rattle.search.specs.Extend.{biases_of, extra_limit, single_where, single_extra, compound_where, compound_extra, extra_of}
-
--- there are seven sign biases
-pub biases-seven : {l : List ℕ} (f : Frame) → l ≡ biases_of f → length l ≡ 7
-unfolding biases_of
-biases-seven f e = rw e
+use Rattle.search.specs.Extend.{extra_limit, single_where, single_extra, compound_where, compound_extra, extra_of}
 
 -- a side's line is one that a walk may go along
-pub near-lent : {ntile nrecs total limit : ℕ} {l : Line} (down : Bool) (b : Site) → Lent ntile nrecs total → Placed b → l ≡ near_line down b → limit ≤ 16
-    → code.Lent ntile nrecs total l limit
-near-lent down b h p e s =
-    let r = near-room h b p down in
-    rw e (record { tile = r.tile; recs = r.recs; entry = r.entry; col = r.col; short = s })
+pub near-walked : {limit : ℕ} {l : Line} (down : Bool) (b : Site) → Placed b → l ≡ near_line down b → limit ≤ 16 → Walked l limit
+near-walked down b p e s =
+    let r = near-room b p down in
+    rw e (record { entry = r.entry; col = r.col; short = s })
 
 -- a side that isn't at the tile's edge
 module _ (read : ℕ → ℕ → NeighbourRead) (b : Site) (down : Bool) (biases : List ℕ) {l : Line} {limit : ℕ} (i : l ≡ near_line down b) (j : limit ≡ extra_limit b) (n : depth_of down b ≡ 0 → ⊥) where

@@ -12,7 +12,7 @@ use borrow.Author.Tests.{eq-eqb, ne_eqb}
 use Rattle.ground.proofs.Diffs.{Which, more, less, which}
 use Rattle.ground.proofs.Picks.{pick_true, pick-false}
 use Rattle.vector.specs.declared.mv.Mv.{Mv}
-use Rattle.cells.specs.declared.block.MvPair.{MvPair}
+use Rattle.cells.specs.Block.{MvPair}
 use Rattle.frame.specs.declared.extent.sizes.Sizes.{Sizes}
 use Rattle.frame.specs.declared.record.Frame.{Frame}
 use Rattle.frame.specs.Record.{well_frame}
@@ -47,7 +47,6 @@ use Rattle.search.specs.front.Context.{matches_of, context_of}
 use Rattle.cells.specs.Cell.{is_ref}
 use Rattle.spatial.specs.around.Around as around
 use Rattle.spatial.specs.Code.Around as code
-use Rattle.spatial.specs.Code.Around.{Lent}
 use Rattle.spatial.specs.around.Around.{near_all, far_all}
 use Rattle.search.proofs.front.Fronts.{Passed, site-placed, rows_inside, columns-inside}
 use Rattle.search.specs.declared.find.Findings.{Findings}
@@ -153,7 +152,7 @@ sided f w =
     }
 
 -- What the code has at hand once the front is passed: the frame's sizes and the block, read out of their bytes.
-module _ (l tl : List ℕ) (a : Ask) {z : Sizes} {b : Site} {nf nt nr : ℕ} (ze : z ≡ sizes_at l) (be : b ≡ site_of (tile_at tl) a) (p : Past (frame_at l) (tile_at tl) a nf nt nr) where
+module _ (l tl : List ℕ) (a : Ask) {z : Sizes} {b : Site} {nf : ℕ} (ze : z ≡ sizes_at l) (be : b ≡ site_of (tile_at tl) a) (p : Past (frame_at l) (tile_at tl) a nf) where
   pub sizes-are : z ≡ (frame_at l).sizes
   unfolding frame_at
   sizes-are = ze
@@ -164,8 +163,8 @@ module _ (l tl : List ℕ) (a : Ask) {z : Sizes} {b : Site} {nf nt nr : ℕ} (ze
   pub placed : Placed b
   placed = subst Placed (sym be) (site-placed (frame_at l) (tile_at tl) a p.well p.asked)
 
-  pub lends : {n : ℕ} → n ≡ records z → Lent nt nr n
-  lends e = record { tile = p.tile; recs = omega (arith, p.listed, e, ap records sizes-are) }
+  pub as_many : {n : ℕ} → n ≡ records z → n ≡ records (frame_at l).sizes
+  as_many e = e ∙ ap records sizes-are
 
   pub reaching : (Placed b) × (b.row.end.0 ≤ z.ih4.0) × (b.col.end.0 ≤ z.iw4.0) × (z.ih4.0 ≤ most_units) × (z.iw4.0 ≤ most_units)
   unfolding site_of
@@ -201,12 +200,10 @@ pub far-light : {a b d : ℕ} → b ≤ 1028 → a ≤ b + 5120 → d ≤ a + 13
 far-light h i j = record { light = omega arith }
 
 -- the extra search that the code asked for
-pub extra-asked : (l tl recs : List ℕ) (a : Ask) {total : ℕ} {z : Sizes} {b : Site} {g : MvPair} {s u : State} {o : answered.Outcome}
-    → z ≡ sizes_at l → total ≡ records z → b ≡ site_of (tile_at tl) a → g ≡ global_of a → s ≡ u
-    → o ≡ extra_of (read_at (tile_at tl).rows recs total) b (biases_of (frame_at l)) a.refs g s
-    → extra_of (read_at (tile_at tl).rows recs (records (frame_at l).sizes)) (site_of (tile_at tl) a) (biases_of (frame_at l)) a.refs (global_of a) u ≡ o
-unfolding frame_at
-extra-asked l tl recs a ze te be ge se e = sym (rw (te, ze, be, ge, se) at e)
+pub extra-asked : (read : ℕ → ℕ → NeighbourRead) (l tl : List ℕ) (a : Ask) {b : Site} {g : MvPair} {s u : State} {o : answered.Outcome}
+    → b ≡ site_of (tile_at tl) a → g ≡ global_of a → s ≡ u → o ≡ extra_of read b (biases_of (frame_at l)) a.refs g s
+    → extra_of read (site_of (tile_at tl) a) (biases_of (frame_at l)) a.refs (global_of a) u ≡ o
+extra-asked read l tl a be ge se e = sym (rw (be, ge, se) at e)
 
 pub contexts : {i j : Bool} {n m k h : ℕ} (w : Bool) (still : ℕ) → i ≡ j → n ≡ k → m ≡ h → context_of i n m w still ≡ context_of j k h w still
 contexts w still p q r = rw (p, q, r)
@@ -228,8 +225,8 @@ ends read f t a still count matched newmv all last found e h k x y =
     ∙ sym (concludes read f t a still count matched newmv all e)
 
 -- the front once passed
-pub past : {f : Frame} {t : Tile} {a : Ask} {nrecs nproj nf nt : ℕ} → Passed f t a nrecs nproj → 109 ≤ nf → 168 ≤ nt → Past f t a nf nt nrecs
-past p nf nt = record { frame = nf; tile = nt; well = p.well; asked = p.asked; listed = p.listed }
+pub past : {f : Frame} {t : Tile} {a : Ask} {nrecs nproj nf : ℕ} → Passed f t a nrecs nproj → 109 ≤ nf → Past f t a nf
+past p nf = record { frame = nf; well = p.well; asked = p.asked }
 
 -- The parts that the code asked for, as the definition has them.
 module _ (l tl : List ℕ) (a : Ask) {z : Sizes} {b : Site} (ze : z ≡ sizes_at l) (be : b ≡ site_of (tile_at tl) a) where
@@ -245,17 +242,13 @@ module _ (l tl : List ℕ) (a : Ask) {z : Sizes} {b : Site} (ze : z ≡ sizes_at
     unfolding frame_at field_of
     still-asked he e = rw (me, fe, be, ze, oe, he) at e
 
-  pub far-asked : (recs : List ℕ) (above left : ℕ) (s : State) {total : ℕ} {q : Want} {w : around.Went} → total ≡ records z → q ≡ want_of a
-      → w ≡ far_all (read_at (tile_at tl).rows recs total) b above left q s
-      → far_all (read_at (tile_at tl).rows recs (records (frame_at l).sizes)) (site_of (tile_at tl) a) above left (want_of a) s ≡ w
-  unfolding frame_at
-  far-asked recs above left s te qe e = sym (rw (te, qe, be, ze) at e)
+-- and the neighbours that it asked for
+module _ (read : ℕ → ℕ → NeighbourRead) (tl : List ℕ) (a : Ask) {b : Site} {q : Want} {w : around.Went} (be : b ≡ site_of (tile_at tl) a) (qe : q ≡ want_of a) where
+  pub far-asked : (above left : ℕ) (s : State) → w ≡ far_all read b above left q s → far_all read (site_of (tile_at tl) a) above left (want_of a) s ≡ w
+  far-asked above left s e = sym (rw (qe, be) at e)
 
-  pub near-asked : (recs : List ℕ) {total : ℕ} {q : Want} {w : around.Went} → total ≡ records z → q ≡ want_of a
-      → w ≡ near_all (read_at (tile_at tl).rows recs total) b (eqb a.decoded 1) q
-      → near_all (read_at (tile_at tl).rows recs (records (frame_at l).sizes)) (site_of (tile_at tl) a) (eqb a.decoded 1) (want_of a) ≡ w
-  unfolding frame_at
-  near-asked recs te qe e = sym (rw (te, qe, be, ze) at e)
+  pub near-asked : w ≡ near_all read b (eqb a.decoded 1) q → near_all read (site_of (tile_at tl) a) (eqb a.decoded 1) (want_of a) ≡ w
+  near-asked e = sym (rw (qe, be) at e)
 
 -- the front, and the search behind it
 module _ (f : Frame) (t : Tile) (recs proj : List ℕ) (a : Ask) where
@@ -267,3 +260,8 @@ module _ (f : Frame) (t : Tile) (recs proj : List ℕ) (a : Ask) where
       → search_of (read_at t.rows recs (records f.sizes)) (cell_read proj (projected_cells f.sizes)) f t a ≡ find_of f t recs proj a
   unfolding find_of
   fronts e = sym (pick_true _ (eq-eqb _ 0 e))
+
+  -- the same where the records are counted once more
+  pub fronts-listed : {n : ℕ} → n ≡ records f.sizes → find_front f t a (length recs) (length proj) ≡ 0
+      → search_of (read_at t.rows recs n) (cell_read proj (projected_cells f.sizes)) f t a ≡ find_of f t recs proj a
+  fronts-listed i e = ap (λ k. search_of (read_at t.rows recs k) (cell_read proj (projected_cells f.sizes)) f t a) i ∙ fronts e

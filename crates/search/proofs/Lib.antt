@@ -2,3 +2,4 @@
 pub mod Temporals
 pub mod Extends
 pub mod Finds
+pub mod Sevens

@@ -2,8 +2,8 @@
 use Rattle.std.specs.Prelude.{ℕ, min, Bool, true, false, not, List, eqb, leb, length, get_or}
 use Rattle.ground.specs.Pick.{pick}
 use Rattle.cells.specs.declared.cell.Ref.{Ref}
-use Rattle.cells.specs.declared.block.MvPair.{MvPair}
-use Rattle.cells.specs.declared.block.RefPair.{RefPair}
+use Rattle.cells.specs.Block.{MvPair}
+use Rattle.cells.specs.Block.{RefPair}
 use Rattle.frame.specs.declared.record.Frame.{Frame}
 use Rattle.frame.specs.hints.Distances.{seven}
 use Rattle.frame.specs.Record.{no_hint}

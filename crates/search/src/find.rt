@@ -9,17 +9,19 @@ ghost use Rattle.search.specs.front.Ask.{find_front};
 ghost use Rattle.search.specs.front.Context.{matches_of};
 ghost use Rattle.search.specs.Code.Find.{finding, Past};
 ghost use Rattle.search.specs.Find.{reach_of, concluded, timed, gone_on, find_of};
-ghost use Rattle.search.specs.Code.Bytes.{listed_in, cells_in};
+ghost use Rattle.search.specs.Code.Bytes.{cells_in};
+ghost use Rattle.spatial.specs.Code.Neighbour.{read_from};
 
 use crate::extend::extend;
 use crate::front::ask::{Ask, find_front, global_of, site_of, want_of};
 use crate::front::context::{context_of, matches};
 use crate::parts::{aim_of, field_of, temporal_where, zero_where};
+use crate::source::Source;
 use frame::extent::sizes::Sizes;
-use ground::bound::least;
 use layout::frame_bytes::{sizes_at, temporal_in, use_ref_frame_mvs_in};
 use spatial::around::far::far;
 use spatial::around::near::{Around, near};
+use spatial::neighbours::records::Records;
 use spatial::site::block::Site;
 use stack::add::{REF_CAT_LEVEL, raise};
 use stack::clamp::{Reach, clamp};
@@ -87,29 +89,28 @@ fn take_nearest(s: &[u64]) -> Nearest
 // What all neighbours found, sorted, filled up by the extra search and clamped.
 fn conclude(
     frame: &[u8],
-    tile: &[u8],
-    recs: &[u8],
+    records: Records<'_>,
     a: Ask,
     zero: u8,
     near: Nearest,
     s: &mut [u64],
 ) -> Findings
-    requires { Past (frame_at frame.now) (tile_at tile.now) a (length frame.now) (length tile.now) (length recs.now)
+    requires { Past (frame_at frame.now) (tile_at records.tile.now) a (length frame.now)
         × (zero ≤ 1) × (near.matched ≤ 2) × Held s.old }
     ensures held { Held s.new }
     ensures s_after { finding result (found_at s.new)
-        ≡ concluded (listed_in frame.now tile.now recs.now)
-        (frame_at frame.now) (tile_at tile.now) a zero near.count near.matched near.newmv
+        ≡ concluded (read_from records.entry)
+        (frame_at frame.now) (tile_at records.entry.tile.now) a zero near.count near.matched near.newmv
         (view_at s.old) }
 {
     let z = sizes_at(frame);
-    let b = site_of(tile, a);
+    let b = site_of(records.tile, a);
     let refs = a.refs;
     let global = global_of(a);
     let matched = matches(s);
     // The stack only grows: the near candidates are no more than all of them.
-    sort_parts(s, least(near.count, count_in(s)));
-    let last = extend(frame, tile, recs, z.records(), b, refs, global, s);
+    sort_parts(s, near.count.min(count_in(s)));
+    let last = extend(frame, records, b, refs, global, s);
     if last != 0 {
         return refuse(last);
     }
@@ -135,58 +136,68 @@ fn is_timed(frame: &[u8]) -> bool
 // From the near neighbours on: the projection, then what lies farther off.
 fn go_on(
     frame: &[u8],
-    tile: &[u8],
-    recs: &[u8],
+    records: Records<'_>,
     proj: &[u8],
     a: Ask,
     n: Around,
     s: &mut [u64],
 ) -> Findings
-    requires { (find_front (frame_at frame.now) (tile_at tile.now) a (length recs.now) (length proj.now) ≡ 0)
-        × (109 ≤ length frame.now) × (168 ≤ length tile.now) × (n.answer ≡ 0) × Held s.old
+    requires { (find_front (frame_at frame.now) (tile_at records.tile.now) a (length records.recs.now) (length proj.now) ≡ 0)
+        × (109 ≤ length frame.now) × (n.answer ≡ 0) × Held s.old
         × (heft_at s.old ≤ 1028) × (n.above ≤ 16) × (n.left ≤ 16) }
     ensures held { Held s.new }
     ensures s_after { finding result (found_at s.new)
-        ≡ gone_on (listed_in frame.now tile.now recs.now)
-        (cells_in frame.now proj.now) (frame_at frame.now) (tile_at tile.now) a
+        ≡ gone_on (read_from records.entry)
+        (cells_in frame.now proj.now) (frame_at frame.now) (tile_at records.entry.tile.now) a
         (view_at s.old) n.above n.left }
 {
     let z = sizes_at(frame);
-    let b = site_of(tile, a);
+    let b = site_of(records.tile, a);
     let on = is_timed(frame);
     let header = temporal_in(frame);
     let aim = aim_of(frame, a);
-    let f = field_of(z, tile, b);
+    let f = field_of(z, records.tile, b);
     let first = take_nearest(s);
     raise(s, REF_CAT_LEVEL);
     let timed = temporal_where(on, proj, f, b, aim, s);
     if timed != 0 {
         return refuse(timed);
     }
-    let all = far(tile, recs, z.records(), b, n.above, n.left, want_of(a), s);
+    let all = far(records, b, n.above, n.left, want_of(a), s);
     if all.answer != 0 {
         return refuse(all.answer);
     }
     let zero = zero_where(on, proj, f, b, aim, header);
-    conclude(frame, tile, recs, a, zero, first, s)
+    conclude(frame, records, a, zero, first, s)
 }
 
 // A search on the bytes of a frame record and of a tile, where they stand.
-pub fn find(frame: &[u8], tile: &[u8], recs: &[u8], proj: &[u8], a: Ask, s: &mut [u64]) -> Findings
-    requires { (109 ≤ length frame.now) × (168 ≤ length tile.now) × (length s.old ≡ 20) }
+pub fn find(from: Source<'_>, a: Ask, s: &mut [u64]) -> Findings
+    requires { (109 ≤ length from.frame.now) × (168 ≤ length from.tile.now) × (length s.old ≡ 20) }
     ensures held { (result.answer ≡ 0) → Held s.new }
     ensures s_after { finding result (found_at s.new)
-        ≡ find_of (frame_at frame.now) (tile_at tile.now) recs.now proj.now a }
+        ≡ find_of (frame_at from.entry.frame.now) (tile_at from.entry.tile.now) from.entry.recs.now from.entry.proj.now a }
 {
+    let Source {
+        frame,
+        tile,
+        recs,
+        proj,
+    } = from;
     let front = find_front(frame, tile, a, recs.len(), proj.len());
     if front != 0 {
         return refuse(front);
     }
     let z = sizes_at(frame);
     let b = site_of(tile, a);
-    let n = near(tile, recs, z.records(), b, a.decoded == 1, want_of(a), s);
+    let records = Records {
+        tile,
+        recs,
+        total: z.records(),
+    };
+    let n = near(records, b, a.decoded == 1, want_of(a), s);
     if n.answer != 0 {
         return refuse(n.answer);
     }
-    go_on(frame, tile, recs, proj, a, n, s)
+    go_on(frame, records, proj, a, n, s)
 }

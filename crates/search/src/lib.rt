@@ -9,3 +9,4 @@ pub mod find;
 pub mod front;
 pub mod lent_bytes;
 pub mod parts;
+pub mod source;

@@ -1,5 +1,5 @@
 // The temporal part of a search: the block's place in the projection, and where its cells are aimed.
-ghost use Rattle.std.specs.Prelude.{◌≡◌, true, ◌+◌, ◌≤◌, length};
+ghost use Rattle.std.specs.Prelude.{◌≡◌, true, ◌+◌, ◌^◌, ◌≤◌, ◌<◌, length};
 ghost use Rattle.frame.specs.extent.Sizes.{well_sizes};
 ghost use Rattle.layout.specs.FrameBytes.{frame_at};
 ghost use Rattle.layout.specs.TileBytes.{tile_at};
@@ -52,7 +52,7 @@ pub(crate) fn aim_of(frame: &[u8], a: Ask) -> Aim
 // The tile row's part of the projection holds 16 rows, each row of the frame modulo 16.
 pub(crate) fn field_of(z: Sizes, tile: &[u8], b: Site) -> Field
     requires { (168 ≤ length tile.now) × (well_sizes z ≡ true) × Placed b }
-    ensures { result ≡ field_of z (tile_at tile.now) b }
+    ensures { (result ≡ field_of z (tile_at tile.now) b) × ((tile_at tile.now).proj < 2 ^ 32) }
 {
     let stride = z.stride;
     Field {

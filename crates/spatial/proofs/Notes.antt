@@ -5,16 +5,15 @@ use mathlib.Core.Bool.{Bool, true, false, ◌||◌, not, or-true, or-false}
 use mathlib.Core.List.{List}
 use Prim.Native.Nat.{ℕ}
 use lib.ListN.{length}
+use Rattle.std.specs.Prelude.{Option, None, Some}
 use Rattle.ground.specs.Pick.{pick}
 use Rattle.cells.specs.declared.block.Block.{Block}
-use Rattle.cells.specs.declared.block.MvPair.{MvPair}
+use Rattle.cells.specs.Block.{MvPair}
 use Rattle.stack.specs.Stack.{State, joined}
 use Rattle.stack.specs.Code.Found.{Found, live, view, heft}
 use Rattle.stack.specs.Code.Numbers.{flagged, found_at, view_at, heft_at, Held}
 use Rattle.stack.specs.declared.numbers.Flag.TheVariants.{NewMv}
 use Rattle.spatial.specs.declared.neighbours.want.Want.{Want}
-use Rattle.spatial.specs.declared.neighbours.want.Offer.{Offer}
-use Rattle.spatial.specs.declared.neighbours.want.Offer.TheVariants.{Nothing, Pair}
 use Rattle.spatial.specs.neighbours.Want.{offer_of}
 use Rattle.spatial.specs.Take.{new_mode, noted, spatial}
 use Rattle.spatial.specs.Code.Take.{mode_flag, side_flag}
@@ -47,11 +46,11 @@ notes down mf k l m h e d n =
     (record { size = n ∙ h.size; room = rw (f, t.0) h.room }, ap view f ∙ t.1, ap (λ (s : Found). heft (live s)) f ∙ ap heft t.2)
 
 -- the two cases of an offer
-module _ (down : Bool) (w : ℕ) (k : Block) (q : Want) (s : State) {o : Offer} (e : o ≡ offer_of k q) where
-  pub none : o ≡ Nothing → s ≡ spatial down w k q s
+module _ (down : Bool) (w : ℕ) (k : Block) (q : Want) (s : State) {o : Option MvPair} (e : o ≡ offer_of k q) where
+  pub none : o ≡ None → s ≡ spatial down w k q s
   unfolding spatial
   none n = rw (← e, n)
 
-  pub some : {p : MvPair} → o ≡ Pair p → noted down k.mf (joined s p w) ≡ spatial down w k q s
+  pub some : {p : MvPair} → o ≡ Some p → noted down k.mf (joined s p w) ≡ spatial down w k q s
   unfolding spatial
   some n = rw (← e, n)

@@ -2,7 +2,6 @@
 -- Assumes nothing.
 use mathlib.Core.Path.{◌≡◌, refl, sym, ◌∙◌, subst}
 use mathlib.Core.Bool.{Bool, true, false, not}
-use mathlib.Core.List.{List}
 use Prim.Native.Nat.{ℕ, zero, suc, ◌+◌, ◌*◌, ◌≤◌, ◌<◌, max, min}
 use native.Mathlib.Nat.{lt_irrefl, mul-le-mul}
 use native.Mathlib.Omega.{arith}
@@ -12,13 +11,11 @@ use Rattle.ground.specs.Pick.{pick}
 use Rattle.cells.specs.declared.pos.Pos4.{Pos4}
 use Rattle.stack.specs.Stack.{State}
 use Rattle.stack.specs.Code.Found.{Found}
-use Rattle.layout.specs.TileBytes.{tile_at}
 use Rattle.spatial.specs.declared.neighbours.read.Neighbour.{Neighbour}
-use Rattle.spatial.specs.declared.neighbours.read.Line.{Line}
 use Rattle.spatial.specs.declared.neighbours.read.NeighbourRead.{NeighbourRead}
 use Rattle.spatial.specs.declared.neighbours.read.NeighbourRead.TheVariants as read_as
 use Rattle.spatial.specs.declared.neighbours.want.Want.{Want}
-use Rattle.spatial.specs.neighbours.Neighbour.{along_of, read_at, line_at}
+use Rattle.spatial.specs.neighbours.Neighbour.{along_of}
 use Rattle.spatial.proofs.neighbours.Known.{Known, Told, is_some, some-side, across-is}
 use Rattle.spatial.specs.declared.scan.Span.{Span}
 use Rattle.spatial.specs.declared.scan.Scan.{Scan}
@@ -27,10 +24,6 @@ use Rattle.spatial.specs.declared.scan.Next.TheVariants as next-as
 use Rattle.spatial.specs.Take.{spatial}
 use Rattle.spatial.specs.Scan.{ScanOutcome, refused, found, shorter, next_of, scan_on, weight_of}
 use Rattle.spatial.specs.Code.Scan.{scanned, Fair, Sized}
-
--- the neighbours of a line, in the bytes of a tile and of records
-abbrev pub line : List ℕ → List ℕ → ℕ → Line → ℕ → NeighbourRead
-line tile recs total l = line_at (read_at (tile_at tile).rows recs total) l
 
 -- a neighbour that was read has sides of 1 to 32 units
 pub sides : (down : Bool) (k : Neighbour) → Known k → Sized down k
@@ -120,10 +113,6 @@ not_found r s h = rw (ne_eqb r.answer 0 (λ e. lt_irrefl 0 (omega arith)))
 -- what a neighbour counts for, where the step and its length are those of a side
 pub most-le : {r a b : ℕ} → r ≡ max a b → a ≤ 32 → b ≤ 32 → r ≤ 32
 most-le e h i = omega arith
-
--- the first neighbour's weight, and then that of the others
-pub sum-le : {a b len : ℕ} (h : ℕ) → a ≤ b + 256 → b ≤ h + 2 * len → len ≤ 32 → a ≤ h + 512
-sum-le h d e f = omega arith
 
 -- the weight of a neighbour as long as the block, for at most three rows
 pub weight-le : (p : Span) (across : ℕ) → p.rows ≤ 3 → weight_of p across ≤ 6

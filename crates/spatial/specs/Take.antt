@@ -1,9 +1,8 @@
 -- A neighbour is taken: its candidate joins the stack, and its match is noted (7.10.2.7 to 7.10.2.9).
-use Rattle.std.specs.Prelude.{ℕ, Bool, ◌||◌, not, leb}
+use Rattle.std.specs.Prelude.{ℕ, Bool, ◌||◌, not, leb, Option, None, Some}
 use Rattle.cells.specs.declared.block.Block.{Block}
+use Rattle.cells.specs.Block.{MvPair}
 use Rattle.spatial.specs.declared.neighbours.want.Want.{Want}
-use Rattle.spatial.specs.declared.neighbours.want.Offer.{Offer}
-use Rattle.spatial.specs.declared.neighbours.want.Offer.TheVariants.{Nothing, Pair}
 use Rattle.spatial.specs.neighbours.Want.{offer_of}
 use Rattle.stack.specs.Stack.{State, joined}
 
@@ -16,9 +15,9 @@ unfoldable pub noted : Bool → ℕ → State → State
 noted down mf s =
     record { cands = s.cands; newmv = s.newmv || new_mode mf; above = s.above || not down; left = s.left || down }
 
-abbrev pub taken : Bool → ℕ → ℕ → State → Offer → State
-taken down w mf s Nothing = s
-taken down w mf s (Pair p) = noted down mf (joined s p w)
+abbrev pub taken : Bool → ℕ → ℕ → State → Option MvPair → State
+taken down w mf s None = s
+taken down w mf s (Some p) = noted down mf (joined s p w)
 
 unfoldable pub spatial : Bool → ℕ → Block → Want → State → State
 spatial down w k q s = taken down w k.mf s (offer_of k q)

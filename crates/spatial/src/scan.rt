@@ -1,15 +1,15 @@
 // A scan along a line of neighbours, the Rust's `scan_row` and `scan_col` in one.
-ghost use Rattle.std.specs.Prelude.{◌≡◌, false, ◌+◌, ◌*◌, ◌≤◌, ◌<◌, ◌^◌, max, min, length};
+ghost use Rattle.std.specs.Prelude.{◌≡◌, ◌+◌, ◌≤◌, ◌<◌, ◌^◌};
 ghost use Rattle.stack.specs.Code.Numbers.{found_at, view_at, heft_at, Held};
 ghost use Rattle.spatial.specs.Scan.{weight_of, next_of, scan_on, scan_from, scan_of, point_of};
 ghost use Rattle.spatial.specs.Code.Scan.{scanned, Room, Fair, Sized};
-ghost use Rattle.spatial.specs.Code.Neighbour.{read_in, line_in};
+ghost use Rattle.spatial.specs.Code.Neighbour.{read_from, line_from};
 
-use crate::neighbours::read::{Line, Neighbour, NeighbourRead, neighbour_at, read_at};
+use crate::neighbours::read::{Line, Neighbour, NeighbourRead};
+use crate::neighbours::records::Records;
 use crate::neighbours::want::Want;
 use crate::take::add_spatial;
 use cells::pos::Pos4;
-use ground::bound::{least, most};
 
 // The block's side along the line, how far neighbours are looked at, how many rows of neighbours the
 // search may look at from here on, and the least that a neighbour counts for.
@@ -47,20 +47,20 @@ fn weigh(p: Span, across: Pos4) -> usize
     if p.size.0 == 1 {
         return 2;
     }
-    most(2, least(2 * p.rows, across.0))
+    (2 * p.rows).min(across.0).max(2)
 }
 
 // 9 where a later neighbour is as long as the block.
-fn next_at(tile: &[u8], recs: &[u8], total: usize, l: Line, p: Span, i: Pos4) -> Next
-    requires { Room (length tile.now) (length recs.now) total l × (i.0 < 128) }
-    ensures { result ≡ next_of (line_in tile.now recs.now total l) l.down p i.0 }
+fn next_at(records: Records<'_>, l: Line, p: Span, i: Pos4) -> Next
+    requires { Room l × (i.0 < 128) }
+    ensures { result ≡ next_of (line_from records.entry l) l.down p i.0 }
 {
-    match neighbour_at(tile, recs, total, l, i) {
+    match records.neighbour_at(l, i) {
         NeighbourRead::Refused(n) => Next::Refused(n),
         NeighbourRead::Of(k) => {
             let n = k.along(l.down);
             if n.0 < p.size.0 {
-                return Next::Take(k, Pos4(most(p.step.0, n.0)));
+                return Next::Take(k, Pos4(p.step.0.max(n.0)));
             }
             Next::Refused(9)
         }
@@ -68,24 +68,16 @@ fn next_at(tile: &[u8], recs: &[u8], total: usize, l: Line, p: Span, i: Pos4) ->
 }
 
 // The scan from its second neighbour on. The first one's weight may be among those of the stack.
-fn scan_on(
-    tile: &[u8],
-    recs: &[u8],
-    total: usize,
-    l: Line,
-    q: Want,
-    p: Span,
-    from: Pos4,
-    s: &mut [u64],
-) -> Scan
-    requires { Room (length tile.now) (length recs.now) total l × Held s.old × Fair 0 p × (heft_at s.old < 2 ^ 31) × (from.0 ≤ 64) }
+fn scan_on(records: Records<'_>, l: Line, q: Want, p: Span, from: Pos4, s: &mut [u64]) -> Scan
+    requires { Room l × Held s.old × Fair 0 p × (heft_at s.old < 2 ^ 31) × (from.0 ≤ 64) }
     ensures held { Held s.new × (heft_at s.new ≤ heft_at s.old + 256) × (result.reach ≤ 16) }
     ensures s_after { scanned result (found_at s.new)
-        ≡ scan_on (line_in tile.now recs.now total l) l.down q p p.limit.0 from.0 (view_at s.old) }
+        ≡ scan_on (line_from records.entry l) l.down q p p.limit.0 from.0 (view_at s.old) }
 {
     let mut x = from.0;
+    // No range: x goes on by what was read.
     while x < p.limit.0 {
-        match next_at(tile, recs, total, l, p, Pos4(x)) {
+        match next_at(records, l, p, Pos4(x)) {
             Next::Refused(n) => {
                 return Scan {
                     answer: n,
@@ -105,30 +97,21 @@ fn scan_on(
 }
 
 // The scan, once its first neighbour is read.
-fn scan_from(
-    tile: &[u8],
-    recs: &[u8],
-    total: usize,
-    l: Line,
-    q: Want,
-    p: Span,
-    k: Neighbour,
-    s: &mut [u64],
-) -> Scan
-    requires { Room (length tile.now) (length recs.now) total l × Held s.old × Fair (heft_at s.old) p × Sized l.down k }
+fn scan_from(records: Records<'_>, l: Line, q: Want, p: Span, k: Neighbour, s: &mut [u64]) -> Scan
+    requires { Room l × Held s.old × Fair (heft_at s.old) p × Sized l.down k }
     ensures held { Held s.new × (heft_at s.new ≤ heft_at s.old + 512) × (result.reach ≤ 16) }
     ensures s_after { scanned result (found_at s.new)
-        ≡ scan_from (line_in tile.now recs.now total l) l.down q p k (view_at s.old) }
+        ≡ scan_from (line_from records.entry l) l.down q p k (view_at s.old) }
 {
     let n = k.along(l.down);
     if n.0 < p.size.0 {
-        let len = Pos4(most(p.step.0, n.0));
+        let len = Pos4(p.step.0.max(n.0));
         add_spatial(s, (SHORT * len.0) as u64, k.block, q, l.down);
-        return scan_on(tile, recs, total, l, q, p, len, s);
+        return scan_on(records, l, q, p, len, s);
     }
     let across = k.across(l.down);
     let weight = weigh(p, across);
-    let len = most(p.step.0, p.size.0);
+    let len = p.step.0.max(p.size.0);
     add_spatial(s, (len * weight) as u64, k.block, q, l.down);
     Scan {
         answer: 0,
@@ -136,45 +119,29 @@ fn scan_from(
     }
 }
 
-pub fn scan_line(
-    tile: &[u8],
-    recs: &[u8],
-    total: usize,
-    l: Line,
-    q: Want,
-    p: Span,
-    s: &mut [u64],
-) -> Scan
-    requires { Room (length tile.now) (length recs.now) total l × Held s.old × Fair (heft_at s.old) p }
+pub fn scan_line(records: Records<'_>, l: Line, q: Want, p: Span, s: &mut [u64]) -> Scan
+    requires { Room l × Held s.old × Fair (heft_at s.old) p }
     ensures held { Held s.new × (heft_at s.new ≤ heft_at s.old + 512) × (result.reach ≤ 16) }
     ensures s_after { scanned result (found_at s.new)
-        ≡ scan_of (line_in tile.now recs.now total l) l.down q p (view_at s.old) }
+        ≡ scan_of (line_from records.entry l) l.down q p (view_at s.old) }
 {
-    match neighbour_at(tile, recs, total, l, Pos4(0)) {
+    match records.neighbour_at(l, Pos4(0)) {
         NeighbourRead::Refused(n) => Scan {
             answer: n,
             reach: 0,
         },
-        NeighbourRead::Of(k) => scan_from(tile, recs, total, l, q, p, k, s),
+        NeighbourRead::Of(k) => scan_from(records, l, q, p, k, s),
     }
 }
 
 // A single neighbour, above left or above right, which counts as one above.
-pub fn point(
-    tile: &[u8],
-    recs: &[u8],
-    total: usize,
-    e: usize,
-    col: Pos4,
-    q: Want,
-    s: &mut [u64],
-) -> Scan
-    requires { (168 ≤ length tile.now) × (12 * total ≤ length recs.now) × Held s.old × (heft_at s.old < 2 ^ 31) }
+pub fn point(records: Records<'_>, e: usize, col: Pos4, q: Want, s: &mut [u64]) -> Scan
+    requires { Held s.old × (heft_at s.old < 2 ^ 31) }
     ensures held { Held s.new × (heft_at s.new ≤ heft_at s.old + 4) }
     ensures s_after { scanned result (found_at s.new)
-        ≡ point_of (read_in tile.now recs.now total e col.0) q (view_at s.old) }
+        ≡ point_of (read_from records.entry e col.0) q (view_at s.old) }
 {
-    match read_at(tile, recs, total, e, col) {
+    match records.read_at(e, col) {
         NeighbourRead::Refused(n) => Scan {
             answer: n,
             reach: 0,

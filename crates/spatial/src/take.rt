@@ -4,7 +4,7 @@ ghost use Rattle.stack.specs.Code.Numbers.{found_at, view_at, heft_at, Held};
 ghost use Rattle.spatial.specs.Take.{spatial};
 ghost use Rattle.spatial.specs.Code.Take.{mode_flag, side_flag};
 
-use crate::neighbours::want::{Offer, Want, offered};
+use crate::neighbours::want::{Want, offered};
 use cells::block::Block;
 use stack::add::add;
 use stack::numbers::{Flag, put_flag};
@@ -23,11 +23,7 @@ fn note_side(s: &mut [u64], down: bool)
     requires { length s.old ≡ 20 }
     ensures { found_at s.new ≡ side_flag down (found_at s.old) }
 {
-    if down {
-        put_flag(s, Flag::Left);
-    } else {
-        put_flag(s, Flag::Above);
-    }
+    put_flag(s, if down { Flag::Left } else { Flag::Above });
 }
 
 pub fn add_spatial(s: &mut [u64], w: u64, k: Block, q: Want, down: bool)
@@ -35,12 +31,9 @@ pub fn add_spatial(s: &mut [u64], w: u64, k: Block, q: Want, down: bool)
     ensures { Held s.new × (view_at s.new ≡ spatial down w k q (view_at s.old))
         × (heft_at s.new ≤ heft_at s.old + w) }
 {
-    match offered(k, q) {
-        Offer::Nothing => {}
-        Offer::Pair(p) => {
-            add(s, p, w);
-            note_mode(s, k.mf);
-            note_side(s, down);
-        }
+    if let Some(p) = offered(k, q) {
+        add(s, p, w);
+        note_mode(s, k.mf);
+        note_side(s, down);
     }
 }

@@ -1,34 +1,40 @@
 -- What the code finds and stores, as what the definitions say of the candidates in use.
 -- Assumes nothing.
-use mathlib.Core.Path.{◌≡◌, sym, ap, ◌∙◌}
-use mathlib.Core.Bool.{Bool, true, false}
+use mathlib.Core.Path.{◌≡◌, refl, sym, ap, ◌∙◌}
+use mathlib.Core.Bool.{Bool, true, false, cond, not}
 use mathlib.Core.List.{List, [], ◌∷◌, ◌++◌}
 use Prim.Native.Nat.{ℕ, suc, ◌+◌, ◌^◌, ◌≤◌, ◌<◌}
 use native.Mathlib.Omega.{arith}
 use native.Mathlib.Numerals.{add-one}
 use lib.Dec.{eqb}
-use lib.ListN.{length, get_or, set, take, drop, length-set}
-use lib.Seq.{drop-cons, get_or-take, length-take-le, take-set-lt, take-suc-set, set-set, get_or-set_same}
-use borrow.Author.Tests.{lt-ltb, le-ltb, eq-eqb, ne_eqb}
+use Rattle.std.proofs.Common.{Some, None}
+use Rattle.std.specs.Option.{is_some}
+use Rattle.std.specs.List.{position, position_or_len}
+use lib.ListN.{length, get_or, set, take, length-set}
+use lib.Seq.{get_or-take, length-take-le, take-set-lt, take-suc-set}
+use borrow.Author.Tests.{lt-ltb, le-ltb, ltb-true, ltb-false}
 use Rattle.ground.specs.Pick.{pick}
-use Rattle.cells.specs.declared.block.MvPair.{MvPair}
+use Rattle.cells.specs.Block.{MvPair}
 use Rattle.stack.specs.declared.candidate.Candidate.{Candidate}
-use Rattle.stack.specs.Code.Found.{Found, live, view, weightier, appended, heft}
-use Rattle.stack.specs.Stack.{with_cands, eq_pair, nobody, find_in, heavier, add_to, joined, pushed, extended}
+use Rattle.stack.specs.Code.Found.{Found, with_stack, live, view, weightier, appended, heft}
+use Rattle.stack.specs.Stack.{place_in, stands, with_cands, eq_pair, nobody, find_in, heavier, add_to, joined, pushed, extended}
 use Rattle.stack.specs.Code.Numbers.{pair_in, cand_at, found_at, view_at, count_at, Held}
 use Rattle.stack.proofs.Counts.{heft-at, heft-add}
-use Rattle.stack.proofs.Helds.{stack-long, cand-is, pair-laid, weight-laid, count-laid, pair_eq}
+use Rattle.stack.proofs.Helds.{stack-long, cand-is, weight-laid, count-laid, pair_eq}
 use Rattle.stack.proofs.Maps.{Turned, as-was, live_of}
 
--- one step of the search, by what the test at i says
-found_here : (l : List Candidate) (p : MvPair) (i : ℕ) → i < length l → eq_pair (get_or l i nobody).mv p ≡ true → find_in (drop i l) p ≡ 0
+-- the first number that is k, where numbers and candidates agree on which are
+first-is : (xs : List ℕ) (cs : List Candidate) (k : ℕ) (p : MvPair) → length xs ≡ length cs
+    → ((i : ℕ) → i < length xs → eqb (get_or xs i 0) k ≡ eq_pair (get_or cs i nobody).mv p) → position_or_len (λ x. eqb x k) xs ≡ find_in cs p
 unfolding find_in
-found_here l p i h e = rw (drop-cons l i nobody, e)
-
-not-here : (l : List Candidate) (p : MvPair) (i : ℕ) → i < length l → eq_pair (get_or l i nobody).mv p ≡ false
-    → find_in (drop i l) p ≡ suc (find_in (drop (suc i) l) p)
-unfolding find_in
-not-here l p i h e = rw (drop-cons l i nobody, e)
+first-is [] [] k p n h = refl
+first-is [] (c ∷ cs) k p n h = absurd (omega (arith, n))
+first-is (x ∷ xs) [] k p n h = absurd (omega (arith, n))
+first-is (x ∷ xs) (c ∷ cs) k p n h = rw (h 0 (omega arith)) (by (eq_pair c.mv p) (first-is xs cs k p (omega (arith, n)) (λ i g. h (suc i) (omega arith))))
+  where
+    by : (b : Bool) → position_or_len (λ x. eqb x k) xs ≡ find_in cs p → cond (not b) (1 + position_or_len (λ x. eqb x k) xs) 0 ≡ pick b 0 (suc (find_in cs p))
+    by true ih = refl
+    by false ih = omega (arith, ih)
 
 find-le : (l : List Candidate) (p : MvPair) → find_in l p ≤ length l
 unfolding find_in
@@ -79,47 +85,54 @@ module _ (l : List ℕ) (h : Held l) where
       let e = weight-laid l i (get_or l (8 + i) 0 + w) h.size g in
       (record { size = length-set l (8 + i) _ ∙ h.size; room = rw e h.room }, rw (e, cand-is l i g))
 
-  -- a pair, its weight and the count
-  pub lies : (n k w : ℕ) → n ≡ (found_at l).count → n < 8
-      → Held (set (set (set l n k) (8 + n) w) 16 (n + 1))
-      × (found_at (set (set (set l n k) (8 + n) w) 16 (n + 1)) ≡ appended (found_at l) (record { mv = pair_in k; weight = w }))
+  -- a candidate that was laid behind the others is counted
+  pub counts : (c : Candidate) (m : List ℕ) (n : ℕ) → n ≡ (found_at l).count → n < 8 → Held m → found_at m ≡ with_stack (found_at l) (set (found_at l).stack n c)
+      → Held (set m 16 (n + 1)) × (found_at (set m 16 (n + 1)) ≡ appended (found_at l) c)
   unfolding appended
-  lies n k w e g =
-      let m = length-set l n k ∙ h.size in
-      let o = length-set (set l n k) (8 + n) w ∙ m in
-      let q : found_at (set (set (set l n k) (8 + n) w) 16 (n + 1)) ≡ appended (found_at l) (record { mv = pair_in k; weight = w }) =
-      rw (
-        count-laid (set (set l n k) (8 + n) w) (n + 1) o,
-        weight-laid (set l n k) n w m g,
-        pair-laid l n k h.size g,
-        get_or-set_same l n k 0 (omega (arith, h.size)),
-        set-set,
-        add-one n,
-        e,
-      ) in
-      (record { size = length-set (set (set l n k) (8 + n) w) 16 (n + 1) ∙ o; room = rw q (omega arith) }, q)
+  counts c m n e g o q =
+      let d : found_at (set m 16 (n + 1)) ≡ appended (found_at l) c = rw (count-laid m (n + 1) o.size, q, add-one n, e) in
+      (record { size = length-set m 16 (n + 1) ∙ o.size; room = rw d (omega arith) }, d)
 
--- the search by numbers, as the loop goes on
+-- the search by numbers
 module _ (l : List ℕ) (h : Held l) (k : ℕ) (few : (i : ℕ) → get_or l i 0 < 2 ^ 64) (fits : k < 2 ^ 64) where
   pub test-is : (i : ℕ) → i < (found_at l).count → eqb (get_or l i 0) k ≡ eq_pair (get_or (live (found_at l)) i nobody).mv (pair_in k)
   unfolding cand_at
   test-is i g = pair_eq (get_or l i 0) k (few i) fits ∙ sym (ap (λ (c : Candidate). eq_pair c.mv (pair_in k)) (live-is l h i g))
 
-  pub stops : (i : ℕ) → i < (found_at l).count → find_in (live (found_at l)) (pair_in k) ≡ i + find_in (drop i (live (found_at l))) (pair_in k)
-      → get_or l i 0 ≡ k → i ≡ find_in (live (found_at l)) (pair_in k)
-  stops i g inv e =
-      let z = found_here (live (found_at l)) (pair_in k) i (omega (arith, in_use l h)) (sym (test-is i g) ∙ eq-eqb _ _ e) in
-      omega arith
+  -- the first number that is k stands where the first such pair does
+  pub position-is : position (λ x. eqb x k) (take (count_at l) l) ≡ place_in (live (found_at l)) (pair_in k)
+  unfolding place_in
+  position-is =
+      let m = length-take-le (count_at l) l (omega (arith, h.size, h.room)) in
+      let e = first-is (take (count_at l) l) (live (found_at l)) k (pair_in k) (m ∙ sym (in_use l h))
+      (λ i g. ap (λ (n : ℕ). eqb n k) (get_or-take (count_at l) l i 0 (omega (arith, m))) ∙ test-is i (omega (arith, m))) in
+      rw (e, m, in_use l h) refl
 
-  pub goes_on : (i : ℕ) → i < (found_at l).count → find_in (live (found_at l)) (pair_in k) ≡ i + find_in (drop i (live (found_at l))) (pair_in k)
-      → (get_or l i 0 ≡ k → ⊥) → find_in (live (found_at l)) (pair_in k) ≡ i + 1 + find_in (drop (i + 1) (live (found_at l))) (pair_in k)
-  goes_on i g inv e =
-      let z = not-here (live (found_at l)) (pair_in k) i (omega (arith, in_use l h)) (sym (test-is i g) ∙ ne_eqb _ _ e) in
-      rw (add-one i) (omega arith)
+-- a place that is given, and none
+module _ (l : List Candidate) (p : MvPair) where
+  pub place-given : {i : ℕ} → place_in l p ≡ Some i → (i ≡ find_in l p) × (i < length l)
+  unfolding place_in
+  place-given e = by (stands l p) refl e
+    where
+      by : {i : ℕ} → (b : Bool) → stands l p ≡ b → pick b (Some (find_in l p)) None ≡ Some i → (i ≡ find_in l p) × (i < length l)
+      by {i = i} true s e = let t = ltb-true _ _ s in let d : i ≡ find_in l p = cc in (d, omega arith)
+      by false s e = cc
 
-pub at-end : (l : List ℕ) → Held l → (p : MvPair) (i : ℕ) → i ≡ (found_at l).count
-    → find_in (live (found_at l)) p ≡ i + find_in (drop i (live (found_at l))) p → (found_at l).count ≡ find_in (live (found_at l)) p
-at-end l h p i e inv = omega (arith, find-le (live (found_at l)) p, in_use l h)
+  pub no-place : place_in l p ≡ None → length l ≤ find_in l p
+  unfolding place_in
+  no-place e = by (stands l p) refl e
+    where
+      by : (b : Bool) → stands l p ≡ b → pick b (Some (find_in l p)) None ≡ None → length l ≤ find_in l p
+      by true s e = cc
+      by false s e = ltb-false _ _ s
+
+  pub has-place : is_some (place_in l p) ≡ stands l p
+  unfolding place_in
+  has-place = by (stands l p)
+    where
+      by : (b : Bool) → is_some (pick b (Some (find_in l p)) None) ≡ b
+      by true = refl
+      by false = refl
 
 -- what is added to the list, by where the pair stands
 module _ (l : List Candidate) (p : MvPair) (w : ℕ) {i : ℕ} (at : i ≡ find_in l p) where
@@ -167,19 +180,16 @@ module _ (l : List ℕ) (h : Held l) (p : MvPair) {i : ℕ} (at : i ≡ find_in 
       let n = in_use l h in
       ap (with_cands (view (found_at l))) (add_none (live (found_at l)) p w at (omega arith) (omega arith))
 
-  pub new : i ≡ (found_at l).count → (found_at l).count < 8 → view (appended (found_at l) (record { mv = p; weight = 2 })) ≡ extended (view (found_at l)) p
+-- only where it is new
+module _ (l : List ℕ) (p : MvPair) where
+  pub new : is_some (place_in (live (found_at l)) p) ≡ false → (found_at l).count < 8
+      → view (appended (found_at l) (record { mv = p; weight = 2 })) ≡ extended (view (found_at l)) p
   unfolding view extended
-  new e k =
-      let t : length (live (found_at l)) ≤ find_in (live (found_at l)) p = omega (arith, in_use l h) in
-      rw (le-ltb _ _ t) (laid (found_at l) _ (omega (arith, stack-long l)))
+  new e k = rw (sym (has-place (live (found_at l)) p) ∙ e) (laid (found_at l) _ (omega (arith, stack-long l)))
 
-  pub old : (i ≡ (found_at l).count → ⊥) → view (found_at l) ≡ extended (view (found_at l)) p
+  pub old : is_some (place_in (live (found_at l)) p) ≡ true → view (found_at l) ≡ extended (view (found_at l)) p
   unfolding view extended
-  old n =
-      let u = in_use l h in
-      let m = find-le (live (found_at l)) p in
-      let t : find_in (live (found_at l)) p < length (live (found_at l)) = omega arith in
-      rw (lt-ltb _ _ t)
+  old e = rw (sym (has-place (live (found_at l)) p) ∙ e)
 
 pub pushes : (l : List ℕ) (p : MvPair) → (found_at l).count < 8 → view (appended (found_at l) (record { mv = p; weight = 2 })) ≡ pushed (view (found_at l)) p
 unfolding view pushed

@@ -1,28 +1,29 @@
--- What `clip` returns by its two tests, one turn of the clamp, and where clamped vectors lie.
+-- What holds a component to its bounds, one turn of the clamp, and where clamped vectors lie.
 -- Assumes nothing.
-use mathlib.Core.Path.{◌≡◌, sym, ap, ap₂, ◌∙◌, subst⁻¹}
-use mathlib.Core.Bool.{true, false}
+use mathlib.Core.Path.{◌≡◌, sym, ap, ◌∙◌, subst⁻¹}
+use mathlib.Core.Bool.{true}
 use mathlib.Core.List.{List, [], ◌∷◌, map}
 use Prim.Native.Nat.{ℕ, min, ◌+◌, ◌^◌, ◌<◌, zero-le}
 use native.Mathlib.Omega.{arith}
 use lib.ListN.{get_or, set, length-set}
 use lib.IntN.{ℤ, pos, negsuc, neg_ℤ, nat_abs}
-use lib.Signed.{mag, lt_z}
+use lib.Signed.{mag, ◌≤ℤ◌}
+use Rattle.std.proofs.lemmas.Int.{ints}
+use Rattle.std.specs.Int.{int_max, int_min}
 use borrow.Author.Tests.{le-ltb}
 use Rattle.ground.specs.Pick.{pick}
 use Rattle.ground.specs.Sign.{signed, below, from_to, clip3}
-use Rattle.ground.proofs.Picks.{pick_true, pick-false}
 use Rattle.ground.proofs.Signs.{clip3-sides, clip3-lies}
 use Rattle.vector.specs.declared.mv.Mv.{Mv}
-use Rattle.vector.proofs.Vectors.{Fits}
-use Rattle.cells.specs.declared.block.MvPair.{MvPair}
+use Rattle.vector.proofs.Vectors.{Fits, vector}
+use Rattle.cells.specs.Block.{MvPair}
 use Rattle.stack.specs.declared.candidate.Candidate.{Candidate}
 use Rattle.stack.specs.declared.clamp.Reach.{Reach}
 use Rattle.stack.specs.declared.clamp.Bounds.{Bounds}
 use Rattle.stack.specs.Stack.{State}
 use Rattle.stack.specs.Code.Numbers.{pair_bits, pair_in, cand_at, found_at, Held}
 use Rattle.stack.specs.Clamp.{clamped_mv, clamped_pair, clamped_one, clamped}
-use Rattle.stack.specs.Code.Clamp.{lowest, highest, bounds_of, clipped_mv, clipped_pair}
+use Rattle.stack.specs.Code.Clamp.{lowest, highest, bounds_of, Ordered, clipped_mv, clipped_pair}
 use Rattle.stack.proofs.Helds.{stack-long, cand-is, pair-laid, FitsPair, pair-back}
 use Rattle.stack.proofs.Maps.{Turned, turns}
 use Rattle.stack.proofs.Carries.{still-held}
@@ -43,26 +44,22 @@ clipped-mv : (r : Reach) (v : Mv) → Fits v → clipped_mv (bounds_of r) v ≡ 
 unfolding clipped_mv clamped_mv
 clipped-mv r v f = rw (clipped-too r.up r.down v.y f.y, clipped-too r.left r.right v.x f.x)
 
-pub bounded : {a b c d e f g h : ℤ} → a ≡ e → b ≡ f → c ≡ g → d ≡ h
-    → ◌≡◌ {A = Bounds} (record { up = a; down = b; left = c; right = d }) (record { up = e; down = f; left = g; right = h })
-bounded p q r s = λ t. record { up = p t; down = q t; left = r t; right = s t }
+-- std's clamp, whose bounds lie in order, is the standard's
+clamp-is : (lo hi z : ℤ) → lo ≤ℤ hi → int_max lo (int_min z hi) ≡ clip3 lo hi z
+unfolding clip3
+clamp-is lo hi z h = grind (arith, ints)
 
--- What the code's two tests tell, one after the other. The numbers u, a and b are what the locals read back, z, x and y are what the contract speaks of.
-module _ (x y : ℤ) {z u a : ℤ} (same : u ≡ z) (low : a ≡ x) where
-  pub too-low : lt_z u a ≡ true → a ≡ clip3 x y z
-  unfolding clip3
-  too-low t = low ∙ sym (pick_true _ (sym (ap₂ lt_z same low) ∙ t))
+-- the bounds that a reach is made to
+pub in-order : (r : Reach) → Ordered (bounds_of r)
+in-order r = record { y = omega (arith, ints); x = omega (arith, ints) }
 
-  pub too-high : {b : ℤ} → b ≡ y → lt_z u a ≡ false → lt_z b u ≡ true → b ≡ clip3 x y z
-  unfolding clip3
-  too-high high t v = high ∙ sym (pick-false _ (sym (ap₂ lt_z same low) ∙ t) ∙ pick_true _ (sym (ap₂ lt_z high same) ∙ v))
-
-  pub between : {b : ℤ} → b ≡ y → lt_z u a ≡ false → lt_z b u ≡ false → u ≡ clip3 x y z
-  unfolding clip3
-  between high t v = same ∙ sym (pick-false _ (sym (ap₂ lt_z same low) ∙ t) ∙ pick-false _ (sym (ap₂ lt_z high same) ∙ v))
+pub clamped-mv : (b : Bounds) (v : Mv) → Ordered b → {y x : ℤ} → y ≡ int_max b.up (int_min v.y b.down) → x ≡ int_max b.left (int_min v.x b.right)
+    → ◌≡◌ {A = Mv} (record { y = y; x = x }) (clipped_mv b v)
+unfolding clipped_mv
+clamped-mv b v o e f = vector (e ∙ clamp-is b.up b.down v.y o.y) (f ∙ clamp-is b.left b.right v.x o.x)
 
 -- one turn of the clamp: p is the pair that was read, q what it is held to, k the number that is stored
-clamps : (r : Reach) (l₀ l : List ℕ) (i : ℕ) {b : Bounds} {p q : MvPair} {k : ℕ} → Held l → i < 8 → Turned (clamped_one r) (found_at l₀) i (found_at l)
+pub clamps : (r : Reach) (l₀ l : List ℕ) (i : ℕ) {b : Bounds} {p q : MvPair} {k : ℕ} → Held l → i < 8 → Turned (clamped_one r) (found_at l₀) i (found_at l)
     → p ≡ pair_in (get_or l i 0) → FitsPair p → b ≡ bounds_of r → q ≡ clipped_pair b p → FitsPair q → k ≡ pair_bits q
     → Held (set l i k) × Turned (clamped_one r) (found_at l₀) (i + 1) (found_at (set l i k))
 unfolding cand_at
@@ -73,14 +70,6 @@ clamps r l₀ l i {b} {p} {q} {k} h n t e o a j f g =
     let m : pair_in k ≡ clamped_pair r (pair_in (get_or l i 0)) = ap pair_in g ∙ pair-back q f ∙ d ∙ ap (clamped_pair r) e in
     let c = ap (λ (x : MvPair). record { mv = x; weight = w }) m ∙ ap (clamped_one r) (sym (cand-is l i n)) in
     (still-held h (length-set l i k) u, subst⁻¹ (Turned (clamped_one r) (found_at l₀) (i + 1)) u (turns t (omega (arith, stack-long l₀, n)) c))
-
--- for whichever reach has the bounds that the code works with
-pub clamps-any : (l₀ l : List ℕ) (i : ℕ) {b : Bounds} {p q : MvPair} {k : ℕ} → Held l → i < 8
-    → ((r : Reach) → b ≡ bounds_of r → Turned (clamped_one r) (found_at l₀) i (found_at l)) → (r : Reach) → b ≡ bounds_of r
-    → p ≡ pair_in (get_or l i 0) → FitsPair p → q ≡ clipped_pair b p → FitsPair q → k ≡ pair_bits q
-    → Held (set l i k) × ((o : Reach) → b ≡ bounds_of o → Turned (clamped_one o) (found_at l₀) (i + 1) (found_at (set l i k)))
-clamps-any l₀ l i h n t r a e u j f g =
-    ((clamps r l₀ l i h n (t r a) e u a j f g).0, λ o d. (clamps o l₀ l i h n (t o d) e u d j f g).1)
 
 -- both components lie in their reach
 pub record Inside (r : Reach) (v : Mv) : Type 0 where

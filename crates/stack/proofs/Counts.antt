@@ -9,7 +9,7 @@ use lib.Dec.{ltb}
 use lib.ListN.{length, get_or, set, length-append, length-set}
 use borrow.Author.Tests.{ltb-true}
 use Rattle.ground.specs.Pick.{pick}
-use Rattle.cells.specs.declared.block.MvPair.{MvPair}
+use Rattle.cells.specs.Block.{MvPair}
 use Rattle.stack.specs.declared.candidate.Candidate.{Candidate}
 use Rattle.stack.specs.Stack.{nobody, find_in, stands, heavier, add_to}
 use Rattle.stack.specs.Code.Found.{heft}

@@ -18,7 +18,7 @@ use Rattle.vector.specs.declared.mv.Mv.{Mv}
 use Rattle.vector.specs.Vector.{mv_bits, mv_of, eq_mv}
 use Rattle.vector.proofs.Vectors.{Fits, eq_mv-is}
 use Rattle.vector.proofs.Words.{of-bits, bits_most, bits_of}
-use Rattle.cells.specs.declared.block.MvPair.{MvPair}
+use Rattle.cells.specs.Block.{MvPair}
 use Rattle.stack.specs.declared.candidate.Candidate.{Candidate}
 use Rattle.stack.specs.declared.numbers.Flag.{Flag}
 use Rattle.stack.specs.declared.numbers.Flag.TheVariants.{NewMv, Above, Left}

@@ -2,7 +2,7 @@
 use Rattle.std.specs.Prelude.{map, pos, neg_ℤ}
 use Rattle.ground.specs.Sign.{clip3}
 use Rattle.vector.specs.declared.mv.Mv.{Mv}
-use Rattle.cells.specs.declared.block.MvPair.{MvPair}
+use Rattle.cells.specs.Block.{MvPair}
 use Rattle.stack.specs.declared.candidate.Candidate.{Candidate}
 use Rattle.stack.specs.declared.clamp.Reach.{Reach}
 use Rattle.stack.specs.Stack.{State, with_cands}

@@ -1,8 +1,8 @@
 -- The stack as a list of candidates, and what adding one does to it.
-use Rattle.std.specs.Prelude.{ℕ, suc, ◌+◌, Bool, false, ◌&&◌, List, [], ◌∷◌, ◌++◌, map, ltb, length, get_or, set}
+use Rattle.std.specs.Prelude.{ℕ, suc, ◌+◌, Bool, false, ◌&&◌, List, [], ◌∷◌, ◌++◌, map, ltb, length, get_or, set, Option, Some, None}
 use Rattle.ground.specs.Pick.{pick}
 use Rattle.vector.specs.Vector.{zero, eq_mv}
-use Rattle.cells.specs.declared.block.MvPair.{MvPair}
+use Rattle.cells.specs.Block.{MvPair}
 use Rattle.stack.specs.declared.candidate.Candidate.{Candidate}
 
 -- What a search has found so far: its candidates in order, whether a matching neighbour's mode has a new vector, whether a neighbour above matched, and one to
@@ -35,6 +35,10 @@ find_in (x ∷ xs) p = pick (eq_pair x.mv p) 0 (suc (find_in xs p))
 
 abbrev pub stands : List Candidate → MvPair → Bool
 stands l p = ltb (find_in l p) (length l)
+
+-- its place, where it stands there
+unfoldable pub place_in : List Candidate → MvPair → Option ℕ
+place_in l p = pick (stands l p) (Some (find_in l p)) None
 
 abbrev pub heavier : ℕ → Candidate → Candidate
 heavier w c = record { mv = c.mv; weight = c.weight + w }

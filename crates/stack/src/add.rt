@@ -1,36 +1,28 @@
 // A candidate goes onto the stack: it makes an equal one heavier, or stands behind the others.
 ghost use Rattle.std.specs.Prelude.{◌≡◌, ◌+◌, ◌≤◌, ◌<◌, ◌^◌, get_or};
 ghost use Rattle.stack.specs.Code.Found.{live, appended, weightier};
-ghost use Rattle.stack.specs.Stack.{find_in, eq_pair, nobody, joined, extended, pushed, raised};
+ghost use Rattle.stack.specs.Stack.{place_in, eq_pair, nobody, joined, extended, pushed, raised};
 ghost use Rattle.stack.specs.Code.Numbers.{pair_in, found_at, Held, view_at, heft_at, count_at};
 
-use crate::numbers::{count_in, pair_bits};
+use crate::numbers::{COUNT, count_in, pair_bits, put_candidate};
 use cells::block::MvPair;
 
-// Where a pair stands among the candidates; their count where it doesn't.
-fn seek(s: &[u64], k: u64) -> usize
+// Where a pair stands among the candidates.
+fn seek(s: &[u64], k: u64) -> Option<usize>
     requires { Held s.now }
-    ensures { result ≡ find_in (live (found_at s.now)) (pair_in k) }
+    ensures { result ≡ place_in (live (found_at s.now)) (pair_in k) }
 {
-    let n = count_in(s);
-    let mut i: usize = 0;
-    while i < n {
-        if s[i] == k {
-            return i;
-        }
-        i += 1;
-    }
-    n
+    s[..count_in(s)].iter().position(|other| *other == k)
 }
 
 // Behind the others.
-fn lay(s: &mut [u64], n: usize, k: u64, w: u64)
-    requires { Held s.old × (n ≡ count_at s.old) × (n < 8) }
+fn lay(s: &mut [u64], k: u64, w: u64)
+    requires { Held s.old × (count_at s.old < 8) }
     ensures { Held s.new × (found_at s.new ≡ appended (found_at s.old) (record { mv = pair_in k; weight = w })) }
 {
-    s[n] = k;
-    s[8 + n] = w;
-    s[16] = (n + 1) as u64;
+    let n = count_in(s);
+    put_candidate(s, n, k, w);
+    s[COUNT] = (n + 1) as u64;
 }
 
 fn add_weight(s: &mut [u64], i: usize, w: u64)
@@ -46,12 +38,10 @@ pub fn add_bits(s: &mut [u64], k: u64, w: u64)
     ensures { Held s.new × (view_at s.new ≡ joined (view_at s.old) (pair_in k) w)
         × (heft_at s.new ≤ heft_at s.old + w) }
 {
-    let i = seek(s, k);
-    let n = count_in(s);
-    if i < n {
+    if let Some(i) = seek(s, k) {
         add_weight(s, i, w);
-    } else if n < 8 {
-        lay(s, n, k, w);
+    } else if count_in(s) < 8 {
+        lay(s, k, w);
     }
 }
 
@@ -69,7 +59,7 @@ pub fn push(s: &mut [u64], p: MvPair)
     ensures { Held s.new × (count_at s.new ≡ count_at s.old + 1)
         × (view_at s.new ≡ pushed (view_at s.old) p) }
 {
-    lay(s, count_in(s), pair_bits(p), 2);
+    lay(s, pair_bits(p), 2);
 }
 
 // Only where it is new.
@@ -79,10 +69,8 @@ pub fn add_new(s: &mut [u64], p: MvPair)
         × (view_at s.new ≡ extended (view_at s.old) p) }
 {
     let k = pair_bits(p);
-    let i = seek(s, k);
-    let n = count_in(s);
-    if i == n {
-        lay(s, n, k, 2);
+    if seek(s, k).is_none() {
+        lay(s, k, 2);
     }
 }
 
@@ -104,10 +92,7 @@ pub fn raise(s: &mut [u64], w: u64)
         × (view_at s.new ≡ raised w (view_at s.old))
         × (heft_at s.new ≤ heft_at s.old + 5120) }
 {
-    let n = count_in(s);
-    let mut i: usize = 0;
-    while i < n {
+    for i in 0..count_in(s) {
         s[8 + i] += w;
-        i += 1;
     }
 }

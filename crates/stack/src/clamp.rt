@@ -1,8 +1,7 @@
 // Candidates are held to what the frame's surroundings allow.
 ghost use Rattle.std.specs.Prelude.{◌≡◌};
-ghost use Rattle.ground.specs.Sign.{clip3};
 ghost use Rattle.stack.specs.Code.Numbers.{Held, view_at, count_at};
-ghost use Rattle.stack.specs.Code.Clamp.{lowest, highest, bounds_of, clipped_mv, clipped_pair};
+ghost use Rattle.stack.specs.Code.Clamp.{lowest, highest, bounds_of, Ordered, clipped_mv, clipped_pair};
 ghost use Rattle.stack.specs.Clamp.{clamped};
 
 use crate::numbers::{count_in, pair_bits, pair_in};
@@ -27,56 +26,43 @@ struct Bounds {
     right: i16,
 }
 
-// A reach as a component's bound, either way: it may lie past what a component holds.
+// A reach as a component's bound, either way: it may lie past what a component holds. Two functions of a
+// line each: one for both would take the sign and the most.
 fn low(n: u32) -> i16
     ensures { result ≡ lowest n }
 {
-    if n < 32768 { -(n as i16) } else { -32768 }
+    -(n.min(32768) as i32) as i16
 }
 
 fn high(n: u32) -> i16
     ensures { result ≡ highest n }
 {
-    if n < 32768 { n as i16 } else { 32767 }
+    n.min(32767) as i16
 }
 
 // Once for all candidates.
 fn bounds_of(r: Reach) -> Bounds
     ensures { result ≡ bounds_of r }
 {
-    let up = low(r.up);
-    let down = high(r.down);
-    let left = low(r.left);
-    let right = high(r.right);
     Bounds {
-        up,
-        down,
-        left,
-        right,
+        up: low(r.up),
+        down: high(r.down),
+        left: low(r.left),
+        right: high(r.right),
     }
-}
-
-fn clip(c: i16, least: i16, most: i16) -> i16
-    ensures { result ≡ clip3 least most c }
-{
-    if c < least {
-        return least;
-    }
-    if most < c {
-        return most;
-    }
-    c
 }
 
 fn clamp_mv(v: Mv, b: Bounds) -> Mv
+    requires { Ordered b }
     ensures { result ≡ clipped_mv b v }
 {
-    let y = clip(v.y, b.up, b.down);
-    let x = clip(v.x, b.left, b.right);
+    let y = v.y.clamp(b.up, b.down);
+    let x = v.x.clamp(b.left, b.right);
     Mv { y, x }
 }
 
 fn clamp_pair(p: MvPair, b: Bounds) -> MvPair
+    requires { Ordered b }
     ensures { result ≡ clipped_pair b p }
 {
     let first = clamp_mv(p.first, b);
@@ -91,10 +77,7 @@ pub fn clamp(s: &mut [u64], r: Reach)
         × (view_at s.new ≡ clamped r (view_at s.old)) }
 {
     let b = bounds_of(r);
-    let n = count_in(s);
-    let mut i: usize = 0;
-    while i < n {
+    for i in 0..count_in(s) {
         s[i] = pair_bits(clamp_pair(pair_in(s[i]), b));
-        i += 1;
     }
 }

@@ -1,7 +1,7 @@
 // What a search has found so far, in 20 lent numbers: eight pairs of vectors, the eight weights, how
 // many candidates there are, and three flags. Nothing is meant by a pair or a weight behind the
-// candidates. The numbers are lent from part to part of a search: a struct of that size would be copied
-// at each call.
+// candidates. The numbers are lent from part to part of a search: while a struct went by value, it was
+// copied at each call, and a search took three times as long (docs/performance-diary.md).
 ghost use Rattle.std.specs.Prelude.{◌≡◌, ◌%◌, ◌^◌, ◌<◌, length, set};
 ghost use Rattle.stack.specs.Code.Found.{with_stack};
 ghost use Rattle.stack.specs.Stack.{nothing};
@@ -13,7 +13,7 @@ use vector::mv::Mv;
 
 pub const NUMBERS: usize = 20;
 
-const COUNT: usize = 16;
+pub(crate) const COUNT: usize = 16;
 
 // That a matching neighbour's mode has a new vector; that a neighbour above matched; one to the left.
 #[derive(Clone, Copy)]
@@ -23,9 +23,11 @@ pub enum Flag {
     Left,
 }
 
-// Two vectors in one number, so that two pairs are compared at once.
+// Two vectors in one number, so that two pairs are compared at once. No `From`: neither type is of this
+// crate.
 pub fn pair_bits(p: MvPair) -> u64
-    ensures { result ≡ pair_bits p }
+    ensures bits { result ≡ pair_bits p }
+    ensures back { pair_in result ≡ p }
 {
     let first = p.first;
     let second = p.second;

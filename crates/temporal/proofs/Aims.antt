@@ -1,41 +1,28 @@
--- Distances of cells, and vectors taken towards a reference: what they are, and how long.
+-- Vectors taken towards a reference: what they are, and how long; and what a cell that is read is known to be.
 -- Assumes nothing.
-use mathlib.Core.Path.{◌≡◌, refl, sym, ap, ap₂, ◌∙◌}
-use mathlib.Core.Bool.{Bool, true, false, not, true≢false, and-eq-true_iff}
+use mathlib.Core.Path.{◌≡◌, refl, ap, ◌∙◌}
+use mathlib.Core.Bool.{Bool, true, false, not}
 use mathlib.Core.List.{List}
 use Prim.Native.Nat.{ℕ, ◌≤◌}
 use native.Mathlib.Omega.{arith}
 use lib.Dec.{ltb}
-use lib.IntN.{ℤ, pos, negsuc, neg_ℤ, ◌-ℤ◌, nat_abs}
-use mir.Syntax.{w8, w16}
-use mir.Val.{SFits, to_z, of_z}
+use lib.IntN.{ℤ, nat_abs}
+use mir.Syntax.{w16}
+use mir.Val.{to_z, of_z}
 use mir.Facts.{to_z-of_z}
 use Rattle.ground.specs.Pick.{pick}
-use Rattle.ground.specs.Sign.{from_to}
-use Rattle.ground.specs.Twos.{bits8, twos8}
-use Rattle.ground.proofs.Bits.{same, fits-abs}
-use Rattle.ground.proofs.Picks.{or_off}
-use Rattle.ground.proofs.Signs.{abs_neg, abs-sum, from-to-most}
+use Rattle.ground.proofs.Bits.{fits-abs}
 use Rattle.vector.specs.declared.mv.Mv.{Mv}
-use Rattle.vector.specs.Vector.{Within, within, both}
+use Rattle.vector.specs.Vector.{Within, both}
 use Rattle.vector.specs.Projection.{projected}
 use Rattle.vector.proofs.Projections.{projected-within}
 use Rattle.vector.proofs.Precisions.{lowered-within}
 use Rattle.cells.specs.declared.cell.Cell.{Cell}
-use Rattle.cells.specs.declared.block.MvPair.{MvPair}
+use Rattle.cells.specs.Block.{MvPair}
 use Rattle.cells.specs.Cell.{cell_at, well_projected, projected_absent}
 use Rattle.temporal.specs.declared.aim.Aim.{Aim}
 use Rattle.temporal.specs.declared.aim.CellRead.TheVariants.{Of, Absent, Refused}
-use Rattle.temporal.specs.Temporal.{cell_read, towards, pair_of, apart}
-use Rattle.temporal.specs.Code.Temporal.{Aimed}
-
--- a distance of 1..31 stands in its byte as itself
-pub counted : (n : ℕ) (z : ℤ) → n ≡ bits8 (twos8 (bits8 z)) → from_to (pos 1) (pos 31) z ≡ true → n ≡ nat_abs z
-unfolding from_to
-counted n (pos m) h e =
-    let most = from-to-most (pos 1) 31 m e in
-    h ∙ ap bits8 (same w8 (pos m) (omega arith))
-counted n (negsuc m) h e = absurd (true≢false (sym e))
+use Rattle.temporal.specs.Temporal.{cell_read, towards, pair_of}
 
 -- a projected vector is short enough to be lowered, and stays so
 pub wider : (v : Mv) → Within 16383 v → Within 16384 v
@@ -57,11 +44,6 @@ pub paired : (a : Aim) (v : Mv) {d e : ℕ} {first second : Mv}
 unfolding pair_of
 paired a v k p q = rw (p, q, k)
 
--- what the two tests of a cell tell of its distance
-pub aimed : (c : Cell) → well_projected c ≡ true → projected_absent c ≡ false → Aimed c.reference
-unfolding well_projected
-aimed c t a = ((and-eq-true_iff (within 4095 c.mv) (from_to (pos 1) (pos 31) c.reference.0)).0 (sym (or_off a) ∙ t)).1
-
 -- a cell that is read is well formed, and not absent
 pub read_of : (l : List ℕ) (total i : ℕ) (c : Cell) → cell_read l total i ≡ Of c → (well_projected c ≡ true) × (projected_absent c ≡ false)
 unfolding cell_read
@@ -74,14 +56,6 @@ read_of l total i c e = by (not (ltb i total)) (well_projected (cell_at l i)) re
     by false false tw a ta e = (cc, cc)
     by false true tw true ta e = (cc, cc)
     by false true tw false ta e = (cc, cc)
-
--- a difference of two numbers that code holds: u and v are what its locals read back
-pub apart_fits : {u v : ℤ} (a b : ℤ) → u ≡ a → v ≡ b → nat_abs a ≤ 16384 → nat_abs b ≤ 16383 → SFits w16 (u -ℤ v)
-apart_fits {u} {v} a b e f g h = fits-abs (u -ℤ v) (omega (arith, abs-sum u (neg_ℤ v), abs_neg v, ap nat_abs e, ap nat_abs f))
-
--- the test of two numbers that went through locals
-pub held-apart : (a b : ℤ) {r : Bool} → nat_abs a ≤ 16384 → nat_abs b ≤ 16383 → r ≡ apart (to_z w16 (of_z w16 a)) (to_z w16 (of_z w16 b)) → r ≡ apart a b
-held-apart a b g h e = e ∙ ap₂ apart (to_z-of_z {w = w16} (fits-abs a (omega arith))) (to_z-of_z {w = w16} (fits-abs b (omega arith)))
 
 -- a number of 31 at most is what its local reads back
 pub held_small : (z : ℤ) → nat_abs z ≤ 31 → nat_abs (to_z w16 (of_z w16 z)) ≤ 31

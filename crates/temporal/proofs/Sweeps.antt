@@ -1,17 +1,19 @@
 -- What a sweep leaves, turn by turn, and the numbers of the cells that it looks at.
 -- Assumes nothing.
-use mathlib.Core.Path.{◌≡◌, refl, sym, ap, ◌∙◌}
+use mathlib.Core.Path.{◌≡◌, refl, sym, ap, ap₂, ◌∙◌}
 use mathlib.Core.Bool.{Bool, true, false, not}
 use mathlib.Core.List.{List}
+use mathlib.Core.Logic.{◌⊎◌, inl, inr}
 use Prim.Native.Nat.{ℕ, zero, suc, ◌+◌, ◌-◌, ◌*◌, ◌/◌, ◌≤◌, ◌<◌}
 use native.Mathlib.Nat.{lt_irrefl, mul-le-mul, mul-le-mul_right}
 use native.Mathlib.Omega.{arith}
+use Rattle.std.specs.Int.{div_ceil}
 use lib.Dec.{ltb, leb}
 use borrow.Author.Tests.{leb-true, ltb-true}
 use Rattle.ground.specs.Pick.{pick}
 use Rattle.ground.proofs.Picks.{both}
 use Rattle.cells.specs.declared.cell.Cell.{Cell}
-use Rattle.cells.specs.declared.block.MvPair.{MvPair}
+use Rattle.cells.specs.Block.{MvPair}
 use Rattle.cells.specs.Cell.{cell_at, well_projected, projected_absent}
 use Rattle.frame.specs.extent.Sizes.{most_cells}
 use Rattle.spatial.specs.declared.site.block.Site.{Site}
@@ -70,25 +72,40 @@ pub grid-turns : (cells : ℕ → CellRead) (a : Aim) (step n down : ℕ) → Tu
 unfolding in_grid
 grid-turns cells a step n down = record { none = λ i s. refl; more = λ m i s. refl }
 
--- A loop over them holds `o ≡ go left i s`, the definition on the rest: at its end, at a refusal, and from turn to turn.
-module _ {go : ℕ → ℕ → State → Outcome} {one : ℕ → State → Outcome} {step : ℕ} (t : Turns go one step) {o : Outcome} {i : ℕ} {s : State} where
-  pub turns-end : (left : ℕ) → left ≤ 0 → o ≡ go left i s → o ≡ found s
-  turns-end zero h e = e ∙ t.none i s
-  turns-end (suc n) h e = absurd (lt_irrefl 0 (omega arith))
+-- A loop over them is at its turn k: o is what the definition leaves from there on, in n - k turns.
+pub record Left (go : ℕ → ℕ → State → Outcome) (step n first k : ℕ) (o : Outcome) (s : State) : Type 0 where
+  pub is : o ≡ go (n - k) (first + k * step) s
 
-  pub turns-refused : (left : ℕ) {v : Outcome} {k : ℕ} → 0 < left → v ≡ one i s → v ≡ refused k → o ≡ go left i s → v ≡ o
-  turns-refused zero h e r p = absurd (lt_irrefl 0 h)
-  turns-refused (suc n) h e r p = r ∙ sym (p ∙ t.more n i s ∙ ap (λ (x : Outcome). on_found x (go n (i + step))) (sym e ∙ r))
+pub turns-begin : (go : ℕ → ℕ → State → Outcome) (step n first : ℕ) (s : State) → Left go step n first 0 (go n first s) s
+turns-begin go step n first s =
+    let a : n ≡ n - 0 = omega arith in
+    let b : first ≡ first + 0 * step = omega arith in
+    record { is = ap₂ (λ (m i : ℕ). go m i s) a b }
 
-  pub turns-on : (left : ℕ) {v : Outcome} {u : State} → 0 < left → v ≡ one i s → v ≡ found u → o ≡ go left i s → o ≡ go (left - 1) (i + step) u
-  turns-on zero h e r p = absurd (lt_irrefl 0 h)
-  turns-on (suc n) {u = u} h e r p =
-      let k : n ≡ suc n - 1 = omega arith in
-      p ∙ t.more n i s ∙ ap (λ (x : Outcome). on_found x (go n (i + step))) (sym e ∙ r) ∙ ap (λ m. go m (i + step) u) k
+module _ {go : ℕ → ℕ → State → Outcome} {one : ℕ → State → Outcome} {step n first k : ℕ} {o : Outcome} {s : State} (t : Turns go one step) (p : Left go step n first k o s) where
+  pub turns-end : n ≤ k → o ≡ found s
+  turns-end h = let e : n - k ≡ 0 = omega arith in p.is ∙ ap (λ (m : ℕ). go m (first + k * step) s) e ∙ t.none (first + k * step) s
+
+  turn : k < n → o ≡ on_found (one (first + k * step) s) (go (n - (k + 1)) (first + k * step + step))
+  turn h =
+      let e : n - k ≡ suc (n - (k + 1)) = omega arith in
+      p.is ∙ ap (λ (m : ℕ). go m (first + k * step) s) e ∙ t.more (n - (k + 1)) (first + k * step) s
+
+  pub turns-refused : {v : Outcome} {r : ℕ} → k < n → v ≡ one (first + k * step) s → v ≡ refused r → v ≡ o
+  turns-refused h e r = r ∙ sym (turn h ∙ ap (λ (x : Outcome). on_found x (go (n - (k + 1)) (first + k * step + step))) (sym e ∙ r))
+
+  pub turns-on : {v : Outcome} {u : State} → k < n → v ≡ one (first + k * step) s → v ≡ found u → Left go step n first (k + 1) o u
+  turns-on {u = u} h e r =
+      let d : first + k * step + step ≡ first + (k + 1) * step = grind arith in
+      record {
+        is =
+            turn h ∙ ap (λ (x : Outcome). on_found x (go (n - (k + 1)) (first + k * step + step))) (sym e ∙ r)
+            ∙ ap (λ (i : ℕ). go (n - (k + 1)) i u) d;
+      }
 
 -- a cell that is looked at only where it is to be
 module _ (cells : ℕ → CellRead) (a : Aim) (i r : ℕ) (s : Found) where
-  pub where-refused : (here : Bool) → (r ≡ 0 → ⊥) → outcome r s ≡ where_of here cells a i (outcome r s)
+  where-refused : (here : Bool) → (r ≡ 0 → ⊥) → outcome r s ≡ where_of here cells a i (outcome r s)
   unfolding where_of
   where-refused here n =
       let e = is-refused r s n in
@@ -98,17 +115,23 @@ module _ (cells : ℕ → CellRead) (a : Aim) (i r : ℕ) (s : Found) where
   unfolding where_of
   where-here z h e = rw (is_found r s z, h) e
 
-  pub where-not : {here : Bool} → r ≡ 0 → here ≡ false → outcome r s ≡ where_of here cells a i (outcome r s)
+  where-not : {here : Bool} → r ≡ 0 → here ≡ false → outcome r s ≡ where_of here cells a i (outcome r s)
   unfolding where_of
   where-not z h = rw (is_found r s z, h)
 
--- at most eight cells are looked at along a side
-pub cells-most : (limit step : ℕ) → limit ≤ 16 → 1 ≤ step → step ≤ 2 → cells_along limit step ≤ 8
+  -- not looked at: a refusal stands before it, or it isn't to be
+  pub where-passed : (here : Bool) → ((r ≡ 0) × (here ≡ false)) ⊎ (r ≡ 0 → ⊥) → outcome r s ≡ where_of here cells a i (outcome r s)
+  where-passed here (inl p) = where-not p.0 p.1
+  where-passed here (inr n) = where-refused here n
+
+-- the cells below the limit that are looked at, of which there are eight at most
+pub cells-are : (limit step : ℕ) → limit ≤ 16 → 1 ≤ step → step ≤ 2
+    → (div_ceil ((limit + 1) / 2) step ≡ cells_along limit step) × (div_ceil ((limit + 1) / 2) step ≤ 8)
 unfolding cells_along
-cells-most limit zero h k l = absurd (lt_irrefl 0 k)
-cells-most limit (suc zero) h k l = omega arith
-cells-most limit (suc (suc zero)) h k l = omega arith
-cells-most limit (suc (suc (suc n))) h k l = absurd (lt_irrefl 2 (omega arith))
+cells-are limit zero h k l = absurd (lt_irrefl 0 k)
+cells-are limit (suc zero) h k l = (omega arith, omega arith)
+cells-are limit (suc (suc zero)) h k l = (omega arith, omega arith)
+cells-are limit (suc (suc (suc n))) h k l = absurd (lt_irrefl 2 (omega arith))
 
 -- a frame's cells are few
 pub cell-most : (down : Bool) (b : Site) → Placed b → cell_of down b ≤ most_cells

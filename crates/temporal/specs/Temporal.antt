@@ -6,7 +6,7 @@ use Rattle.vector.specs.Vector.{zero, both}
 use Rattle.vector.specs.Projection.{projected}
 use Rattle.vector.specs.Precision.{lowered}
 use Rattle.cells.specs.declared.cell.Cell.{Cell}
-use Rattle.cells.specs.declared.block.MvPair.{MvPair}
+use Rattle.cells.specs.Block.{MvPair}
 use Rattle.cells.specs.Cell.{cell_at, projected_absent, well_projected}
 use Rattle.frame.specs.hints.Distances.{flag_of}
 use Rattle.temporal.specs.declared.aim.Aim.{Aim}

@@ -4,13 +4,9 @@ ghost use Rattle.vector.specs.Vector.{Within};
 ghost use Rattle.cells.specs.Cell.{well_projected, projected_absent};
 ghost use Rattle.stack.specs.Code.Numbers.{pair_in};
 ghost use Rattle.temporal.specs.Temporal.{towards, pair_of, cell_read, apart, far_of, zero_of};
-ghost use Rattle.temporal.specs.Code.Temporal.{Aimed};
 
 use cells::block::MvPair;
-use cells::cell::{Cell, Ref};
-use frame::hints::distances::flag;
-use ground::sign::magnitude;
-use ground::twos::byte_bits;
+use cells::cell::Cell;
 use stack::numbers::pair_bits;
 use vector::mv::Mv;
 use vector::precision::fix_mv_precision;
@@ -54,14 +50,6 @@ pub fn cell_at(proj: &[u8], total: usize, i: usize) -> CellRead
     CellRead::Of(c)
 }
 
-// A projected cell's distance, which stands in place of a reference.
-fn distance_of(r: Ref) -> u32
-    requires { Aimed r }
-    ensures { result ≡ nat_abs r.0 }
-{
-    byte_bits(r.0) as u32
-}
-
 // A vector over the distance den, taken over num instead.
 fn take_towards(v: Mv, num: i16, den: u32, integer: bool, hp: bool) -> Mv
     requires { Within 4095 v × (nat_abs num ≤ 31) × (0 < den) × (den < 32) }
@@ -75,9 +63,10 @@ fn second_of(c: Cell, a: Aim, den: u32) -> Mv
     ensures { result ≡ (pair_of a den c.mv).second }
 {
     if a.compound {
-        return take_towards(c.mv, a.second, den, a.integer, a.hp);
+        take_towards(c.mv, a.second, den, a.integer, a.hp)
+    } else {
+        Mv::ZERO
     }
-    Mv::ZERO
 }
 
 // The candidate of a cell that isn't absent.
@@ -85,7 +74,8 @@ fn pair_of(c: Cell, a: Aim) -> MvPair
     requires { (well_projected c ≡ true) × (projected_absent c ≡ false) × (nat_abs a.first ≤ 31) × (nat_abs a.second ≤ 31) }
     ensures { (result ≡ pair_of a (nat_abs c.reference.0) c.mv) × Within 16384 result.first }
 {
-    let den = distance_of(c.reference);
+    // A projected cell's distance stands in place of a reference.
+    let den = u32::from(c.reference.0.unsigned_abs());
     let first = take_towards(c.mv, a.first, den, a.integer, a.hp);
     let second = second_of(c, a, den);
     MvPair { first, second }
@@ -102,20 +92,15 @@ pub fn bits_of(c: Cell, a: Aim) -> u64
 
 // Two samples or more apart.
 fn is_apart(a: i16, b: i16) -> bool
-    requires { (nat_abs a ≤ 16384) × (nat_abs b ≤ 16383) }
     ensures { result ≡ apart a b }
 {
-    16 <= magnitude(a - b)
+    16 <= a.abs_diff(b)
 }
 
 fn is_far(v: Mv, g: Mv) -> bool
-    requires { Within 16384 v × Within 16383 g }
     ensures { result ≡ far_of v g }
 {
-    if is_apart(v.y, g.y) {
-        return true;
-    }
-    is_apart(v.x, g.x)
+    is_apart(v.y, g.y) || is_apart(v.x, g.x)
 }
 
 // The zero-motion context, which the block's first cell decides: the header's flag where it is
@@ -129,7 +114,7 @@ pub fn zero_context(proj: &[u8], total: usize, i: usize, a: Aim, header: u8) -> 
         CellRead::Absent => header,
         CellRead::Of(c) => {
             let p = pair_of(c, a);
-            flag(is_far(p.first, a.gmv))
+            u8::from(is_far(p.first, a.gmv))
         }
     }
 }

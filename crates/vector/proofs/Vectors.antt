@@ -1,27 +1,33 @@
 -- Vectors by component: when two are equal, ranges, and the bytes read again.
 -- Assumes nothing.
-use mathlib.Core.Path.{◌≡◌, refl, sym, ap, ap₂, ◌∙◌}
+use mathlib.Core.Path.{◌≡◌, refl, ap, ap₂, ◌∙◌}
 use mathlib.Core.Logic.{◌↔◌, ◌⊎◌, ⊎_elim}
-use mathlib.Core.Bool.{true, false, and-eq-true_iff}
+use mathlib.Core.Bool.{◌&&◌, true, and-eq-true_iff}
 use mathlib.Core.List.{List}
-use Prim.Native.Nat.{ℕ, zero, suc, ◌+◌, ◌^◌, ◌≤◌, ◌<◌}
+use Prim.Native.Nat.{ℕ, ◌+◌, ◌^◌, ◌≤◌, ◌<◌}
 use native.Mathlib.Omega.{arith}
 use lib.Dec.{leb}
-use lib.IntN.{ℤ, pos, negsuc, neg_ℤ, nat_abs}
-use borrow.Author.Tests.{le-leb, lt-leb, leb-true, ltb-true, ltb-false}
+use lib.IntN.{ℤ, nat_abs}
+use borrow.Author.Tests.{le-leb, leb-true}
 use lib.ListN.{length}
-use lib.Signed.{mag, lt_z, le_z}
+use lib.Signed.{mag}
+use Rattle.std.proofs.Common.{int_eq}
 use Rattle.ground.specs.Put.{put}
 use Rattle.ground.specs.Sign.{eq_z}
 use Rattle.ground.specs.Twos.{half_of}
 use Rattle.ground.proofs.Puts.{put-append, put-length}
-use Rattle.ground.proofs.Bits.{eq_z-is, half-outside, half_back}
+use Rattle.ground.proofs.Bits.{int_eq-is, eq_z-is, half-outside, half_back}
 use Rattle.vector.specs.Vector.{Within, within, eq_mv, mv_at, mv_bytes}
 use Rattle.vector.specs.declared.mv.Mv.{Mv}
 
 -- a vector whose components are
 pub vector : {y x a b : ℤ} → y ≡ a → x ≡ b → ◌≡◌ {A = Mv} (record { y = y; x = x }) (record { y = a; x = b })
 vector e e' = ap₂ (λ y x. record { y = y; x = x }) e e'
+
+-- what `==` says of two vectors
+pub eq-is : (u v : Mv) → (int_eq u.y v.y && int_eq u.x v.x) ≡ eq_mv u v
+unfolding eq_mv
+eq-is u v = rw (int_eq-is u.y v.y, int_eq-is u.x v.x)
 
 -- the test of equality passes exactly where two vectors are one
 pub eq_mv-is : (u v : Mv) → u ≡ v ↔ eq_mv u v ≡ true
@@ -42,29 +48,6 @@ within-is m v = (
       let h = (and-eq-true_iff (leb (nat_abs v.y) m) (leb (nat_abs v.x) m)).0 t in
       record { y = leb-true (nat_abs v.y) m h.0; x = leb-true (nat_abs v.x) m h.1 },
 )
-
--- a number of 16 bits has a magnitude of at most 32,768
-pub half-most : (z : ℤ) → mag z < 2 ^ 15 → nat_abs z ≤ 32768
-half-most (pos n) h = omega arith
-half-most (negsuc n) h = omega arith
-
--- A bound on a magnitude, one end after the other: u is what the local read back, low and high the two ends.
-beneath : (m : ℕ) (z : ℤ) → lt_z z (neg_ℤ (pos m)) ≡ true → leb (nat_abs z) m ≡ false
-beneath zero (pos n) t = let h : n < 0 = ltb-true n 0 t in absurd (omega arith)
-beneath zero (negsuc n) t = lt-leb (suc n) 0 (omega arith)
-beneath (suc m) (pos n) t = cc
-beneath (suc m) (negsuc n) t = let h = ltb-true m n t in lt-leb (suc n) (suc m) (omega arith)
-
-above : (m : ℕ) (z : ℤ) → lt_z z (neg_ℤ (pos m)) ≡ false → le_z z (pos m) ≡ leb (nat_abs z) m
-above m (pos n) t = refl
-above zero (negsuc n) t = cc
-above (suc m) (negsuc n) t = let h = ltb-false m n t in sym (le-leb (suc n) (suc m) (omega arith))
-
-pub too-low : {u low : ℤ} (z : ℤ) (m : ℕ) → u ≡ z → low ≡ neg_ℤ (pos m) → lt_z u low ≡ true → false ≡ leb (nat_abs z) m
-too-low z m e f t = sym (beneath m z (sym (ap₂ lt_z e f) ∙ t))
-
-pub not-too-low : {u low high : ℤ} (z : ℤ) (m : ℕ) → u ≡ z → low ≡ neg_ℤ (pos m) → high ≡ pos m → lt_z u low ≡ false → le_z u high ≡ leb (nat_abs z) m
-not-too-low z m e f g t = ap₂ le_z e g ∙ above m z (sym (ap₂ lt_z e f) ∙ t)
 
 -- bytes laid elsewhere leave a vector
 pub mv-outside : (l : List ℕ) (j : ℕ) (bs : List ℕ) (i : ℕ) → (i + 4 ≤ j) ⊎ (j + length bs ≤ i) → mv_at (put l j bs) i ≡ mv_at l i

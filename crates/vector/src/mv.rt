@@ -4,10 +4,10 @@ ghost use Rattle.ground.specs.Put.{put};
 ghost use Rattle.vector.specs.Vector.{Within, within, invalid, eq_mv, both, mv_at, mv_bytes, mv_bits, mv_of};
 
 use ground::read::u32_at;
-use ground::twos::{half_bits, signed_half, write_half};
+use ground::twos::write_half;
 
 // In eighths of a sample, down and to the right.
-#[derive(Clone, Copy)]
+#[derive(Clone, Copy, Debug, PartialEq, Eq)]
 pub struct Mv {
     pub y: i16,
     pub x: i16,
@@ -17,14 +17,7 @@ pub struct Mv {
 fn is_short(c: i16, most: u32) -> bool
     ensures { result ≡ leb (nat_abs c) most }
 {
-    if 32767 < most {
-        return true;
-    }
-    let high = most as i16;
-    if c < -high {
-        return false;
-    }
-    c <= high
+    32767 < most || (-(most as i16) <= c && c <= most as i16)
 }
 
 impl Mv {
@@ -36,28 +29,18 @@ impl Mv {
         x: -32768,
     };
 
-    pub fn is(self, o: Mv) -> bool
-        ensures { result ≡ eq_mv self o }
-    {
-        if self.y == o.y { self.x == o.x } else { false }
-    }
-
     // Both components have to be -32,768: either alone is an ordinary number.
     pub fn is_invalid(self) -> bool
         ensures { result ≡ eq_mv self invalid }
     {
-        self.is(Mv::INVALID)
+        self == Mv::INVALID
     }
 
     // Both components lie in -most..=most.
     pub fn within(self, most: u32) -> bool
         ensures { result ≡ within most self }
     {
-        if is_short(self.y, most) {
-            is_short(self.x, most)
-        } else {
-            false
-        }
+        is_short(self.y, most) && is_short(self.x, most)
     }
 
     pub fn negated(self) -> Mv
@@ -70,18 +53,18 @@ impl Mv {
         }
     }
 
-    // One number for both components, the lower half for y.
+    // One number for both components, the lower half for y. No `From`: that would not say which half.
     pub fn bits(self) -> u32
         ensures { result ≡ mv_bits self }
     {
-        half_bits(self.y) as u32 + 65536 * (half_bits(self.x) as u32)
+        self.y.cast_unsigned() as u32 + 65536 * (self.x.cast_unsigned() as u32)
     }
 
     pub fn of_bits(n: u32) -> Mv
         ensures { result ≡ mv_of n }
     {
-        let y = signed_half((n % 65536) as u16);
-        let x = signed_half((n / 65536) as u16);
+        let y = ((n % 65536) as u16).cast_signed();
+        let x = ((n / 65536) as u16).cast_signed();
         Mv { y, x }
     }
 

@@ -31,7 +31,7 @@ fn lower(c: i16, integer: bool, hp: bool) -> i16
 fn keeps(integer: bool, hp: bool) -> bool
     ensures { result ≡ (hp && not integer) }
 {
-    if hp { !integer } else { false }
+    hp && !integer
 }
 
 pub fn fix_mv_precision(mv: Mv, integer: bool, hp: bool) -> Mv

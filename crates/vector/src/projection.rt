@@ -23,7 +23,7 @@ fn scaled(c: u32, num: u32, den: u32) -> u32
 {
     let frac = num * div_mult(den);
     let near = (c * frac + 8192) >> 14;
-    if near < 16383 { near } else { 16383 }
+    near.min(16383)
 }
 
 fn project(c: i16, num: i16, den: u32) -> i16

@@ -2,154 +2,124 @@
 // part's role, the first byte's place, how many units there are, and what one's bytes became.
 ghost use Rattle.std.specs.Prelude.{◌+◌, ◌<◌, ◌≤◌, IfOk, length};
 
-use crate::desk::{JOBS, PROJ, RECORDS, SAVED};
+use crate::desk::{Role, number_of};
 use lines::print;
 use std::io;
 
-// Stands for a byte that stayed.
-const SAME: usize = 256;
-
 // A cell, a record, a job; any other part is one unit.
-fn unit_of(role: usize) -> usize
+fn unit_of(role: Role) -> usize
     ensures { 0 < result }
 {
     match role {
-        PROJ | SAVED => 5,
-        RECORDS => 12,
-        JOBS => 17,
+        Role::Proj | Role::Saved => 5,
+        Role::Records => 12,
+        Role::Jobs => 17,
         _ => 256,
     }
 }
 
-// The same, where so many bytes are left.
-fn unit_in(role: usize, left: usize) -> usize
-    requires { 0 < left }
-    ensures { (0 < result) × (result ≤ left) }
-{
-    let unit = unit_of(role);
-    if unit < left {
-        return unit;
-    }
-    left
+// The bytes of a part before a call and after it.
+#[derive(Clone, Copy)]
+pub(crate) struct Change<'a> {
+    pub(crate) role: Role,
+    pub(crate) before: &'a [u8],
+    pub(crate) after: &'a [u8],
 }
 
-fn wide(b: u8) -> usize {
-    b as usize
-}
-
-fn change_of(before: u8, after: u8) -> usize {
-    if before == after { SAME } else { wide(after) }
-}
-
-// What a byte became.
-fn change_at(before: &[u8], after: &[u8], i: usize) -> usize
-    requires { i < length after.now }
-{
-    if before.len() <= i {
-        return SAME;
-    }
-    change_of(before[i], after[i])
-}
-
-// Whether the unit at a place changed as the one before it.
-fn is_alike(before: &[u8], after: &[u8], at: usize, unit: usize) -> bool
-    requires { (unit ≤ at) × (at + unit ≤ length after.now) }
-{
-    let first = at - unit;
-    for i in 0..unit {
-        if change_at(before, after, first + i) != change_at(before, after, at + i) {
-            return false;
+impl Change<'_> {
+    // What a byte became; None where it stayed.
+    fn byte_at(self, i: usize) -> Option<u8>
+        requires { i < length self.after.now }
+    {
+        if i < self.before.len() && self.before[i] != self.after[i] {
+            Some(self.after[i])
+        } else {
+            None
         }
     }
-    true
-}
 
-fn is_changed(before: &[u8], after: &[u8], at: usize, end: usize) -> bool
-    requires { (at ≤ end) × (end ≤ length after.now) }
-{
-    for i in at..end {
-        if change_at(before, after, i) != SAME {
-            return true;
+    // Whether the unit at a place changed as the one before it.
+    fn is_alike(self, at: usize, unit: usize) -> bool
+        requires { (unit ≤ at) × (at + unit ≤ length self.after.now) }
+    {
+        let first = at - unit;
+        for i in 0..unit {
+            if self.byte_at(first + i) != self.byte_at(at + i) {
+                return false;
+            }
         }
+        true
     }
-    false
-}
 
-// The place behind the units that changed as the one that ends at a place.
-fn run_end(before: &[u8], after: &[u8], end: usize, unit: usize) -> usize
-    requires { (0 < unit) × (unit ≤ end) × (end ≤ length after.now) }
-    ensures { (end ≤ result) × (result ≤ length after.now) }
-{
-    let mut i = end;
-    while unit <= after.len() - i {
-        if !is_alike(before, after, i, unit) {
-            return i;
+    fn is_changed(self, at: usize, end: usize) -> bool
+        requires { (at ≤ end) × (end ≤ length self.after.now) }
+    {
+        for i in at..end {
+            if self.byte_at(i).is_some() {
+                return true;
+            }
         }
-        i += unit;
+        false
     }
-    i
-}
 
-fn show_byte(rt: &impl Print, change: usize) -> io::Result<()> {
-    if change == SAME {
-        print::absent(rt)
-    } else {
-        print::number(rt, change as u64)
+    // The place behind the units that changed as the one that ends at a place.
+    fn run_end(self, end: usize, unit: usize) -> usize
+        requires { (0 < unit) × (unit ≤ end) × (end ≤ length self.after.now) }
+        ensures { (end ≤ result) × (result ≤ length self.entry.after.now) }
+    {
+        let mut i = end;
+
+        // Steps by a unit, as long as the last was like the one before.
+        while unit <= self.after.len() - i && self.is_alike(i, unit) {
+            i += unit;
+        }
+        i
     }
-}
 
-fn show_bytes(rt: &impl Print, before: &[u8], after: &[u8], at: usize, end: usize) -> io::Result<()>
-    requires { (at ≤ end) × (end ≤ length after.now) }
-{
-    for i in at..end {
-        show_byte(rt, change_at(before, after, i))?;
+    fn show_bytes(self, rt: &impl Print, at: usize, end: usize) -> io::Result<()>
+        requires { (at ≤ end) × (end ≤ length self.after.now) }
+    {
+        for i in at..end {
+            match self.byte_at(i) {
+                Some(b) => print::number(rt, b as u64)?,
+                None => print::absent(rt)?,
+            }
+        }
+        Ok(())
     }
-    Ok(())
-}
 
-fn show_run(
-    rt: &impl Print,
-    role: usize,
-    before: &[u8],
-    after: &[u8],
-    at: usize,
-    end: usize,
-    count: usize,
-) -> io::Result<()>
-    requires { (at ≤ end) × (end ≤ length after.now) }
-{
-    if is_changed(before, after, at, end) {
-        print::number(rt, role as u64)?;
-        print::number(rt, at as u64)?;
-        print::number(rt, count as u64)?;
-        show_bytes(rt, before, after, at, end)?;
-        print::end(rt)?;
+    fn show_run(self, rt: &impl Print, at: usize, end: usize, count: usize) -> io::Result<()>
+        requires { (at ≤ end) × (end ≤ length self.after.now) }
+    {
+        if self.is_changed(at, end) {
+            print::number(rt, number_of(self.role) as u64)?;
+            print::number(rt, at as u64)?;
+            print::number(rt, count as u64)?;
+            self.show_bytes(rt, at, end)?;
+            print::end(rt)?;
+        }
+        Ok(())
     }
-    Ok(())
-}
 
-// The run that starts at a place; the place behind it.
-fn show_from(
-    rt: &impl Print,
-    role: usize,
-    before: &[u8],
-    after: &[u8],
-    at: usize,
-) -> io::Result<usize>
-    requires { at < length after.now }
-    ensures { IfOk result (λ r. (at < r) × (r ≤ length after.now)) }
-{
-    let unit = unit_in(role, after.len() - at);
-    let end = at + unit;
-    let behind = run_end(before, after, end, unit);
-    show_run(rt, role, before, after, at, end, (behind - at) / unit)?;
-    Ok(behind)
-}
-
-pub(crate) fn show(rt: &impl Print, role: usize, before: &[u8], after: &[u8]) -> io::Result<()> {
-    let mut at: usize = 0;
-    while at < after.len() {
-        at = show_from(rt, role, before, after, at)?;
+    // The run that starts at a place; the place behind it.
+    fn show_from(self, rt: &impl Print, at: usize) -> io::Result<usize>
+        requires { at < length self.after.now }
+        ensures { IfOk result (λ r. (at < r) × (r ≤ length self.entry.after.now)) }
+    {
+        let unit = unit_of(self.role).min(self.after.len() - at);
+        let end = at + unit;
+        let behind = self.run_end(end, unit);
+        self.show_run(rt, at, end, (behind - at) / unit)?;
+        Ok(behind)
     }
-    Ok(())
+
+    pub(crate) fn show(self, rt: &impl Print) -> io::Result<()> {
+        let mut at: usize = 0;
+
+        // Steps by what a run has.
+        while at < self.after.len() {
+            at = self.show_from(rt, at)?;
+        }
+        Ok(())
+    }
 }

@@ -1,11 +1,11 @@
 // The inner functions under the exported ones. A question outside what a function takes prints its
 // number alone, which is no line of the list.
-use crate::desk::{BLOCK, part};
+use crate::commands::Leaf;
+use crate::desk::{Desk, Role, part};
 use crate::numbers::{byte, half, nth, word};
 use cells::block::Block;
 use cells::cell::{Cell, Ref};
-use cells::size::{Sized, dimensions};
-use ground::sign::magnitude;
+use cells::size::dimensions;
 use lines::print;
 use std::io;
 use vector::hint::get_poc_diff;
@@ -13,17 +13,15 @@ use vector::mv::Mv;
 use vector::precision::fix_mv_precision;
 use vector::projection::mv_projection;
 
-pub(crate) fn leaf(rt: &impl Print, desk: &[u8], n: &[usize]) -> io::Result<()> {
-    let function = nth(n, 0);
-    print::start(rt, byte(function))?;
+pub(crate) fn leaf(rt: &impl Print, desk: &Desk, function: Leaf, n: &[usize]) -> io::Result<()> {
+    print::start(rt, byte(nth(n, 0)))?;
     match function {
-        30 => projection(rt, vector_in(n), half(nth(n, 3)), word(nth(n, 4)))?,
-        31 => precision(rt, vector_in(n), nth(n, 3) == 1, nth(n, 4) == 1)?,
-        32 => distance(rt, word(nth(n, 1)), word(nth(n, 2)), word(nth(n, 3)))?,
-        33 => negation(rt, vector_in(n))?,
-        34 => cell(rt, part(desk, BLOCK))?,
-        35 => record(rt, part(desk, BLOCK))?,
-        _ => {}
+        Leaf::Projection => projection(rt, vector_in(n), half(nth(n, 3)), word(nth(n, 4)))?,
+        Leaf::Precision => precision(rt, vector_in(n), nth(n, 3) == 1, nth(n, 4) == 1)?,
+        Leaf::Distance => distance(rt, word(nth(n, 1)), word(nth(n, 2)), word(nth(n, 3)))?,
+        Leaf::Negation => negation(rt, vector_in(n))?,
+        Leaf::Cell => cell(rt, part(desk, Role::Block))?,
+        Leaf::Record => record(rt, part(desk, Role::Block))?,
     }
     print::end(rt)
 }
@@ -45,14 +43,8 @@ fn reference(rt: &impl Print, r: Ref) -> io::Result<()> {
 }
 
 fn projection(rt: &impl Print, v: Mv, num: i16, den: u32) -> io::Result<()> {
-    if v.within(4095) {
-        if magnitude(num) <= 31 {
-            if 0 < den {
-                if den < 32 {
-                    vector(rt, mv_projection(v, num, den))?;
-                }
-            }
-        }
+    if v.within(4095) && num.unsigned_abs() <= 31 && 0 < den && den < 32 {
+        vector(rt, mv_projection(v, num, den))?;
     }
     Ok(())
 }
@@ -67,10 +59,8 @@ fn precision(rt: &impl Print, v: Mv, integer: bool, hp: bool) -> io::Result<()> 
 fn distance(rt: &impl Print, bits: u32, a: u32, b: u32) -> io::Result<()> {
     if bits <= 8 {
         let whole = 1u32 << bits;
-        if a < whole {
-            if b < whole {
-                print::signed(rt, get_poc_diff(bits, a, b))?;
-            }
+        if a < whole && b < whole {
+            print::signed(rt, get_poc_diff(bits, a, b))?;
         }
     }
     Ok(())
@@ -95,7 +85,7 @@ fn cell(rt: &impl Print, s: &[u8]) -> io::Result<()> {
 }
 
 fn size(rt: &impl Print, code: u8) -> io::Result<()> {
-    if let Sized::Of(d) = dimensions(code) {
+    if let Some(d) = dimensions(code) {
         print::number(rt, d.w.0 as u64)?;
         print::number(rt, d.h.0 as u64)?;
     }

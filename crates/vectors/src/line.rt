@@ -1,52 +1,38 @@
 // A line of the list: a command, by its first number, with the numbers behind it.
 use crate::batch::{play_capture, take_steps};
 use crate::calls::call;
-use crate::desk::set_length;
+use crate::commands::Command;
+use crate::desk::{Desk, Role, set_length};
 use crate::finding::find;
-use crate::lay::{lay, lend_part};
+use crate::lay::{lay, lend};
 use crate::leaves::leaf;
 use crate::numbers::nth;
 use std::io;
 
-// A part is laid by its length, by bytes, or as it is before a call that writes it.
-fn lay_out(desk: &mut [u8], line: &[usize]) {
-    let command = nth(line, 0);
-    match command {
-        1 => set_length(desk, nth(line, 1), nth(line, 2)),
-        2 => lay(desk, line),
-        _ => lend_part(desk, nth(line, 1)),
+// A number that no role has is that of an empty part, which nothing can be laid over.
+fn lay_out(desk: &mut Desk, command: Command, line: &[usize]) {
+    if let Ok(role) = Role::try_from(nth(line, 1)) {
+        match command {
+            Command::SetLength => set_length(desk, role, nth(line, 2)),
+            Command::Lay => lay(desk, role, line),
+            _ => lend(desk, role),
+        }
     }
 }
 
-// An exported function is called, and what it writes is put back on the desk.
-fn call_exported(rt: &impl Print, desk: &mut [u8], line: &[usize]) -> io::Result<()> {
-    let command = nth(line, 0);
+pub(crate) fn obey(rt: &impl Print, desk: &mut Desk, line: &[usize]) -> io::Result<()> {
+    let Ok(command) = Command::try_from(nth(line, 0)) else {
+        return Ok(());
+    };
     match command {
-        17 => find(rt, desk, line),
-        19 => play_capture(rt, desk, line),
-        _ => call(rt, desk, line),
-    }
-}
-
-// What leaves the desk as it is: steps of a batch, and inner functions. Any other line does nothing: a
-// title, or a batch whose steps are to be taken in many orders, which is for rust/compare.
-fn look_at(rt: &impl Print, desk: &[u8], line: &[usize]) -> io::Result<()> {
-    let command = nth(line, 0);
-    match command {
-        20 => take_steps(rt, desk, line),
-        30..=35 => leaf(rt, desk, line),
-        _ => Ok(()),
-    }
-}
-
-pub(crate) fn obey(rt: &impl Print, desk: &mut [u8], line: &[usize]) -> io::Result<()> {
-    let command = nth(line, 0);
-    match command {
-        1..=3 => {
-            lay_out(desk, line);
+        Command::SetLength | Command::Lay | Command::Lend => {
+            lay_out(desk, command, line);
             Ok(())
         }
-        10..=19 => call_exported(rt, desk, line),
-        _ => look_at(rt, desk, line),
+        Command::Call(function) => call(rt, desk, function, line),
+        Command::Find => find(rt, desk, line),
+        Command::PlayCapture => play_capture(rt, desk, line),
+        Command::TakeSteps => take_steps(rt, desk, line),
+        Command::Leaf(function) => leaf(rt, desk, function, line),
     }
 }

@@ -1,9 +1,8 @@
 // The same search over eight records, held to what the search over bytes came to.
 ghost use Rattle.std.specs.Prelude.{◌<◌, ◌≤◌, length};
 
-use crate::desk::{ASK, FRAME, PROJ, RECORDS, STACK, TILE, part};
+use crate::desk::{Desk, Role, part};
 use cells::block::MvPair;
-use check::same;
 use ground::read::u32_at;
 use ground::write::put_u32;
 use lines::print;
@@ -11,8 +10,9 @@ use search::candidates::owned::find_owned;
 use search::candidates::plan::{SearchAnswer, planned};
 use search::front::ask::Ask;
 use search::lent_bytes::question::ask_at;
+use search::source::Source;
 use stack::candidate::Candidate;
-use std::io;
+use std::{array, io};
 use vector::mv::Mv;
 
 const SLOTS: usize = 8;
@@ -36,16 +36,10 @@ fn record_at(stack: &[u8], i: usize) -> Candidate
 }
 
 // The records that the bytes of a lent stack stand for.
-fn records_in(stack: &[u8]) -> [Candidate; 8]
+fn records_in(stack: &[u8]) -> [Candidate; SLOTS]
     requires { 96 ≤ length stack.now }
 {
-    let none = record_at(stack, 0);
-    let mut l = [none; 8];
-    for i in 0..SLOTS {
-        let c = record_at(stack, i);
-        l[i] = c;
-    }
-    l
+    array::from_fn(|i| record_at(stack, i))
 }
 
 fn put_record(stack: &mut [u8], i: usize, c: Candidate)
@@ -57,66 +51,48 @@ fn put_record(stack: &mut [u8], i: usize, c: Candidate)
     put_u32(stack, SLOT * i + 8, c.weight);
 }
 
-fn put_records(stack: &mut [u8], l: [Candidate; 8])
+fn put_records(stack: &mut [u8], l: &[Candidate; SLOTS])
     requires { 96 ≤ length stack.old }
 {
-    for i in 0..SLOTS {
-        let c = l[i];
-        put_record(stack, i, c);
+    for (i, c) in l.iter().enumerate() {
+        put_record(stack, i, *c);
     }
 }
 
-fn are_in(l: [Candidate; 8], stack: &[u8]) -> bool {
+// Whether the records are those whose bytes the stack has.
+fn are_in(l: [Candidate; SLOTS], stack: &[u8]) -> bool {
     let mut laid = [0u8; BYTES];
-    put_records(&mut laid, l);
-    same(&laid, stack)
+    put_records(&mut laid, &l);
+    laid.as_slice() == stack
 }
 
-fn is_found(count: u8, context: u8, answer: u8, found: &[u8]) -> bool {
-    if answer != 0 {
-        return false;
+fn source_in(desk: &Desk) -> Source<'_> {
+    Source {
+        frame: part(desk, Role::Frame),
+        tile: part(desk, Role::Tile),
+        recs: part(desk, Role::Records),
+        proj: part(desk, Role::Proj),
     }
-    let both = [count, context];
-    same(&both, found)
 }
 
-fn is_answer(x: SearchAnswer, answer: u8, found: &[u8]) -> bool {
-    match x {
+fn is_answered(desk: &Desk, a: Ask, answer: u8, found: &[u8]) -> bool {
+    let p = planned(SLOTS, source_in(desk), a);
+    match p.answer {
         SearchAnswer::Refused(number) => number == answer,
-        SearchAnswer::Found(count, context) => is_found(count, context, answer, found),
+        SearchAnswer::Found(count, context) => answer == 0 && [count, context].as_slice() == found,
     }
 }
 
-fn is_answered(desk: &[u8], a: Ask, answer: u8, found: &[u8]) -> bool {
-    let p = planned(
-        SLOTS,
-        part(desk, FRAME),
-        part(desk, TILE),
-        part(desk, RECORDS),
-        part(desk, PROJ),
-        a,
-    );
-    let x = p.answer;
-    is_answer(x, answer, found)
-}
-
-fn are_left(desk: &[u8], a: Ask, lent: &[u8], stack: &[u8]) -> bool
+fn are_left(desk: &Desk, a: Ask, lent: &[u8], stack: &[u8]) -> bool
     requires { 96 ≤ length lent.now }
 {
-    let l = find_owned(
-        records_in(lent),
-        part(desk, FRAME),
-        part(desk, TILE),
-        part(desk, RECORDS),
-        part(desk, PROJ),
-        a,
-    );
+    let l = find_owned(records_in(lent), source_in(desk), a);
     are_in(l, stack)
 }
 
-fn agree(desk: &[u8], answer: u8, stack: &[u8], found: &[u8]) -> bool {
-    let ask = part(desk, ASK);
-    let lent = part(desk, STACK);
+fn agree(desk: &Desk, answer: u8, stack: &[u8], found: &[u8]) -> bool {
+    let ask = part(desk, Role::Ask);
+    let lent = part(desk, Role::Stack);
     if ask.len() < QUESTION || lent.len() < BYTES {
         return true;
     }
@@ -128,7 +104,7 @@ fn agree(desk: &[u8], answer: u8, stack: &[u8], found: &[u8]) -> bool {
 // lent. Where they don't agree a line says so, which is none of the list.
 pub(crate) fn compare(
     rt: &impl Print,
-    desk: &[u8],
+    desk: &Desk,
     answer: u8,
     stack: &[u8],
     found: &[u8],

@@ -64,8 +64,18 @@ fn owner<'a>(lines: &[&'a str], at: usize) -> Option<&'a str> {
     lines[..at]
         .iter()
         .rev()
-        .find_map(|line| line.strip_prefix("impl "))
-        .and_then(|rest| rest.split(' ').next())
+        .find_map(|line| line.strip_prefix("impl"))
+        .and_then(of_type)
+}
+
+/// The name of the type in what stands behind `impl`: `<'a> Fields<'a> {`, ` TryFrom<u8> for Role {`.
+fn of_type(rest: &str) -> Option<&str> {
+    let bare = match rest.strip_prefix('<') {
+        Some(generic) => generic.split_once('>')?.1,
+        None => rest,
+    };
+    let of = bare.split_once(" for ").map_or(bare, |(_, of)| of);
+    of.split([' ', '<']).find(|word| !word.is_empty())
 }
 
 fn function(module: &str, lines: &[&str], first: usize) -> Function {

@@ -1,7 +1,7 @@
 -- What an opened capture is known to have.
 -- Assumes nothing.
 use mathlib.Core.Path.{◌≡◌, refl, ap, ◌∙◌}
-use mathlib.Core.Bool.{true, false, not}
+use mathlib.Core.Bool.{Bool, true, false, not, cond}
 use mathlib.Core.List.{List, []}
 use Prim.Native.Nat.{ℕ, zero, suc, ◌+◌, ◌≤◌, ◌<◌}
 use native.Mathlib.Omega.{arith}
@@ -18,12 +18,24 @@ use Rattle.frame.specs.hints.Description.{setup_answer}
 use Rattle.jobs.specs.declared.job.record.Batch.{Batch}
 use Rattle.jobs.specs.job.Bytes.{capture_job, batch_of}
 use Rattle.jobs.specs.job.Job.{well_batch}
-use Rattle.capture.specs.File.{well_file, scan_of, body_of}
+use Rattle.std.specs.Prelude.{Some, None, Ok, is_some}
+use Rattle.ground.specs.Pick.{pick}
+use Rattle.capture.specs.File.{entries, start_of, entry_of, found, well_file, scan_of, body_of}
 use Rattle.capture.proofs.Files as files
-use Rattle.capture.specs.player.Opened.{described_in, batch_in, present_in, fields_in, beyond, judged, open_answer}
+use Rattle.capture.specs.player.Opened.{described_in, batch_in, flag_of, present_in, fields_in, beyond, judged, open_answer}
 
 pub described-long : (file : List ℕ) → well_file file ≡ true → 67 ≤ length (body_of file 1)
 described-long file e = omega (arith, files.described file e)
+
+-- a field is flagged where its kind is found
+pub flag_found : (file : List ℕ) (k : ℕ) → well_file file ≡ true → cond (is_some (found file k)) 1 0 ≡ flag_of (scan_of file k)
+unfolding found flag_of scan_of
+flag_found file k w = rw w (by (ltb (entry_of file k) (entries file)))
+  where
+    by : (b : Bool) → cond (is_some (pick b (Some (entry_of file k)) None)) 1 0
+        ≡ flag_of (pick b (Ok (Some (record { start = start_of file (entry_of file k); end = start_of file (suc (entry_of file k)) }))) (Ok None))
+    by true = refl
+    by false = refl
 
 -- what is judged well: setup takes it
 pub judged-setup : (bytes : ℕ) (b : Batch) (d : Description) (p : List ℕ) → judged bytes b d p ≡ 0 → setup_answer d p ≡ 0

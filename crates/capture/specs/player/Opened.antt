@@ -1,5 +1,5 @@
 -- What a capture file hands over, and the refusals before any job is looked at (document 01, "Capture file" and the order of refusals).
-use Rattle.std.specs.Prelude.{ℕ, Bool, not, ◌||◌, List, [], ◌∷◌, ltb, length}
+use Rattle.std.specs.Prelude.{ℕ, Bool, not, ◌||◌, List, [], ◌∷◌, ltb, length, Some, None, Ok, Err}
 use Rattle.ground.specs.Pick.{pick}
 use Rattle.frame.specs.declared.hints.description.Description.{Description}
 use Rattle.frame.specs.declared.record.Frame.{Frame}
@@ -10,9 +10,7 @@ use Rattle.motion.specs.loading.Fields.{lent, chosen}
 use Rattle.jobs.specs.declared.job.record.Batch.{Batch}
 use Rattle.jobs.specs.job.Bytes.{capture_job, batch_of}
 use Rattle.jobs.specs.job.Job.{well_batch}
-use Rattle.capture.specs.declared.file.Scan.{Scan}
-use Rattle.capture.specs.declared.file.Scan.TheVariants.{Malformed, Absent, Present}
-use Rattle.capture.specs.File.{well_file, scan_of, body_of}
+use Rattle.capture.specs.File.{Scan, well_file, scan_of, body_of}
 use Rattle.layout.specs.DescriptionBytes.{description_at}
 use Rattle.order.specs.Desk.{Given, given}
 
@@ -26,9 +24,9 @@ batch_in file = batch_of capture_job (body_of file 2)
 
 -- kinds 16..22: the seven fields; each is present where its kind is, with an empty body too
 unfoldable pub flag_of : Scan → ℕ
-flag_of Malformed = 0
-flag_of Absent = 0
-flag_of (Present start end) = 1
+flag_of (Err _) = 0
+flag_of (Ok None) = 0
+flag_of (Ok (Some _)) = 1
 
 unfoldable pub present_in : List ℕ → List ℕ
 present_in file =

@@ -11,10 +11,8 @@ fn lay_everywhere(s: &mut [u8], c: Cell)
     ensures { s.new ≡ everywhere c s.old }
 {
     let n = s.len() / CELL;
-    let mut i: usize = 0;
-    while i < n {
+    for i in 0..n {
         c.write(s, i);
-        i += 1;
     }
 }
 

@@ -1,17 +1,17 @@
 // A capture opened: what it hands over, and the refusals before any job is looked at.
-ghost use Rattle.std.specs.Prelude.{◌≡◌, true};
+ghost use Rattle.std.specs.Prelude.{◌≡◌};
 ghost use Rattle.frame.specs.Record.{frame_of};
 ghost use Rattle.frame.specs.hints.Description.{setup_answer};
-ghost use Rattle.capture.specs.File.{well_file};
-ghost use Rattle.capture.specs.player.Opened.{described_in, batch_in, flag_of, present_in, beyond, judged};
+ghost use Rattle.capture.specs.player.Opened.{described_in, batch_in, present_in, beyond, judged};
 
-use crate::file::{Scan, body_in, scan_in};
+use crate::file::Capture;
 use frame::hints::description::{Description, check_description};
 use frame::record::Frame;
 use jobs::job::job_bytes::{CAPTURE_JOB, batch_of};
 use jobs::job::record::Batch;
 use layout::description_bytes::description_at;
 use layout::frame_bytes::{FRAME, frame_at, put_frame};
+use std::array;
 
 // Of a file, in bytes.
 const MOST_BYTES: usize = 65536;
@@ -25,56 +25,31 @@ const DESCRIPTION_KIND: u8 = 1;
 
 const JOBS_KIND: u8 = 2;
 
-fn flag_of(s: Scan) -> u8
-    ensures { result ≡ flag_of s }
-{
-    match s {
-        Scan::Malformed => 0,
-        Scan::Absent => 0,
-        Scan::Present(start, end) => 1,
-    }
-}
+pub(crate) const FIRST_FIELD_KIND: usize = 16;
 
 // Which of the seven fields are in the file.
-pub(crate) fn present_in(file: &[u8]) -> [u8; 7]
-    requires { well_file file.now ≡ true }
-    ensures { result ≡ present_in file.now }
+pub(crate) fn present_in(capture: &Capture) -> [u8; 7]
+    ensures { result ≡ present_in capture.now.entries.file.now }
 {
-    [
-        flag_of(scan_in(file, 16)),
-        flag_of(scan_in(file, 17)),
-        flag_of(scan_in(file, 18)),
-        flag_of(scan_in(file, 19)),
-        flag_of(scan_in(file, 20)),
-        flag_of(scan_in(file, 21)),
-        flag_of(scan_in(file, 22)),
-    ]
+    array::from_fn(|k| u8::from(capture.entries.find(FIRST_FIELD_KIND + k).is_some()))
 }
 
-pub(crate) fn batch_in(file: &[u8]) -> Batch
-    requires { well_file file.now ≡ true }
-    ensures { result ≡ batch_in file.now }
+pub(crate) fn batch_in(capture: &Capture) -> Batch
+    ensures { result ≡ batch_in capture.now.entries.file.now }
 {
-    batch_of(body_in(file, JOBS_KIND), CAPTURE_JOB)
+    batch_of(capture.body(JOBS_KIND), CAPTURE_JOB)
 }
 
-pub(crate) fn described_in(file: &[u8]) -> Description
-    requires { well_file file.now ≡ true }
-    ensures { result ≡ described_in file.now }
+pub(crate) fn described_in(capture: &Capture) -> Description
+    ensures { result ≡ described_in capture.now.entries.file.now }
 {
-    description_at(body_in(file, DESCRIPTION_KIND))
+    description_at(capture.body(DESCRIPTION_KIND))
 }
 
 fn is_beyond(d: Description) -> bool
     ensures { result ≡ beyond d }
 {
-    if MOST_SIDE < d.width {
-        return true;
-    }
-    if MOST_SIDE < d.height {
-        return true;
-    }
-    MOST_TILE_ROWS < d.tile_rows
+    MOST_SIDE < d.width || MOST_SIDE < d.height || MOST_TILE_ROWS < d.tile_rows
 }
 
 // 0, or the refusal of its jobs' kinds or of its frame: of what a well-formed file of so many bytes

@@ -1,39 +1,18 @@
 -- What an accepted description tells of its numbers.
 -- Assumes nothing.
-use mathlib.Core.Path.{◌≡◌, refl, ap, ◌∙◌}
+use mathlib.Core.Path.{◌≡◌, refl}
 use mathlib.Core.Bool.{Bool, true, false}
 use mathlib.Core.List.{List}
-use Prim.Native.Nat.{ℕ, suc, ◌+◌, ◌^◌, ◌≤◌, ◌<◌}
+use Prim.Native.Nat.{ℕ, ◌^◌, ◌≤◌, ◌<◌}
 use native.Mathlib.Omega.{arith}
-use lib.Dec.{ltb}
 use lib.ListN.{length, get_or}
-use borrow.Author.Tests.{le-ltb, lt-ltb, ltb-true, leb-true}
+use borrow.Author.Tests.{ltb-true, leb-true}
 use Rattle.ground.specs.Pick.{pick}
-use Rattle.ground.specs.Below.{all_below}
 use Rattle.ground.proofs.Belows as belows
 use Rattle.frame.specs.hints.Description.{under, flags, hinted, sized, setup_answer, hint_at}
 use Rattle.frame.specs.extent.Sizes.{limits}
 use Rattle.frame.specs.declared.hints.description.Description.{Description}
 use Rattle.ground.proofs.Picks.{both}
-
--- the bytes before i are below the limit
-abbrev pub Under : List ℕ → ℕ → ℕ → Type 0
-Under xs limit i = all_below i (λ j. ltb (get_or xs j 0) limit) ≡ true
-
-pub under_more : (xs : List ℕ) (limit i : ℕ) {n : ℕ} → n ≡ get_or xs i 0 → n < limit → Under xs limit i → Under xs limit (i + 1)
-under_more xs limit i e l h =
-    let k : i + 1 ≡ suc i = omega arith in
-    ap (λ (m : ℕ). all_below m (λ j. ltb (get_or xs j 0) limit)) k ∙ belows.one_more _ i h (lt-ltb (get_or xs i 0) limit (omega arith))
-
-pub under-fails : (xs : List ℕ) (limit i : ℕ) {n : ℕ} → n ≡ get_or xs i 0 → limit ≤ n → i < length xs → under xs limit ≡ false
-unfolding under
-under-fails xs limit i e l h = belows.one-fails _ (length xs) i h (le-ltb (get_or xs i 0) limit (omega arith))
-
-pub under_all : (xs : List ℕ) (limit i : ℕ) → length xs ≤ i → i ≤ length xs → Under xs limit i → under xs limit ≡ true
-unfolding under
-under_all xs limit i l g h =
-    let k : length xs ≡ i = omega arith in
-    ap (λ (m : ℕ). all_below m (λ j. ltb (get_or xs j 0) limit)) k ∙ h
 
 -- any one of them
 pub under_at : (xs : List ℕ) (limit i : ℕ) → under xs limit ≡ true → i < length xs → get_or xs i 0 < limit

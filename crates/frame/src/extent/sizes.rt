@@ -33,25 +33,17 @@ pub struct Sizes {
 pub fn one_to(most: usize, n: usize) -> bool
     ensures { result ≡ one_to most n }
 {
-    if 1 <= n { n <= most } else { false }
+    1 <= n && n <= most
 }
 
 pub fn limited(width: usize, height: usize, rows: usize, tiles: usize, frames: usize) -> bool
     ensures { result ≡ limits width height rows tiles frames }
 {
-    if !one_to(MOST_SAMPLES, width) {
-        return false;
-    }
-    if !one_to(MOST_SAMPLES, height) {
-        return false;
-    }
-    if !one_to(MOST_TILE_ROWS, rows) {
-        return false;
-    }
-    if !one_to(MOST_THREADS, tiles) {
-        return false;
-    }
-    one_to(MOST_THREADS, frames)
+    one_to(MOST_SAMPLES, width)
+        && one_to(MOST_SAMPLES, height)
+        && one_to(MOST_TILE_ROWS, rows)
+        && one_to(MOST_THREADS, tiles)
+        && one_to(MOST_THREADS, frames)
 }
 
 // Samples in cells.
@@ -109,7 +101,7 @@ pub fn sizes_of(
 fn is_superblock(sbsz: Pos4) -> bool
     ensures { result ≡ superblock sbsz.0 }
 {
-    if sbsz.0 == 16 { true } else { sbsz.0 == 32 }
+    sbsz.0 == 16 || sbsz.0 == 32
 }
 
 impl Sizes {
@@ -117,19 +109,14 @@ impl Sizes {
     pub fn well_formed(self) -> bool
         ensures { result ≡ well_sizes self }
     {
-        if !limited(
+        limited(
             self.width,
             self.height,
             self.tile_rows,
             self.n_tile_threads,
             self.n_frame_threads,
-        ) {
-            return false;
-        }
-        if is_superblock(self.sbsz) {
-            return self.follow();
-        }
-        false
+        ) && is_superblock(self.sbsz)
+            && self.follow()
     }
 
     fn follow(self) -> bool
@@ -139,22 +126,12 @@ impl Sizes {
         let w = in_eighths(self.width);
         let h = in_eighths(self.height);
         let stride = stride_of(self.width);
-        if self.iw8.0 != w.0 {
-            return false;
-        }
-        if self.ih8.0 != h.0 {
-            return false;
-        }
-        if self.iw4.0 != w.doubled().0 {
-            return false;
-        }
-        if self.ih4.0 != h.doubled().0 {
-            return false;
-        }
-        if self.stride.0 != stride.0 {
-            return false;
-        }
-        self.n_blocks == stride.0 * parts_of(self.tile_rows, self.n_tile_threads)
+        self.iw8.0 == w.0
+            && self.ih8.0 == h.0
+            && self.iw4.0 == w.doubled().0
+            && self.ih4.0 == h.doubled().0
+            && self.stride.0 == stride.0
+            && self.n_blocks == stride.0 * parts_of(self.tile_rows, self.n_tile_threads)
     }
 
     // How many cells a saved field has.

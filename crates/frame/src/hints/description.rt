@@ -5,7 +5,8 @@ ghost use Rattle.frame.specs.hints.Description.{under, flags, hinted, setup_answ
 use crate::extent::sizes::limited;
 
 // References are counted from 0, which is LAST, to 6, which is ALTREF. hints_by_ref holds, from 7 * i
-// on, the hints that reference i's own frame held for its references.
+// on, the hints that reference i's own frame held for its references. sb128 and temporal stay bytes:
+// C hands any over, and `flags` refuses those above 1.
 #[derive(Clone, Copy)]
 pub struct Description {
     pub width: usize,
@@ -21,36 +22,16 @@ pub struct Description {
     pub temporal: u8,
 }
 
-// Widened, so that an entry of an array can be compared and passed on.
-pub fn wide(b: u8) -> u32
-    ensures { result ≡ b }
-{
-    b as u32
-}
-
 pub fn all_under(xs: &[u8], limit: u32) -> bool
     ensures { result ≡ under xs.now limit }
 {
-    let mut i: usize = 0;
-    while i < xs.len() {
-        if limit <= wide(xs[i]) {
-            return false;
-        }
-        i += 1;
-    }
-    true
+    xs.iter().all(|x| u32::from(*x) < limit)
 }
 
 fn flags_fit(d: Description, present: [u8; 7]) -> bool
     ensures { result ≡ flags d present }
 {
-    if 1 < d.sb128 {
-        return false;
-    }
-    if 1 < d.temporal {
-        return false;
-    }
-    all_under(&present, 2)
+    d.sb128 <= 1 && d.temporal <= 1 && all_under(&present, 2)
 }
 
 // What every hint of this many bits lies below.
@@ -66,13 +47,8 @@ fn all_fit(xs: &[u8], bits: u32) -> bool
     requires { bits ≤ 8 }
     ensures { result ≡ under xs.now (2 ^ bits) }
 {
-    let mut together: u8 = 0;
-    let mut i: usize = 0;
-    while i < xs.len() {
-        together = together | xs[i];
-        i += 1;
-    }
-    wide(together) < hint_limit(bits)
+    let together = xs.iter().fold(0u8, |together, x| together | *x);
+    u32::from(together) < hint_limit(bits)
 }
 
 // held is d.hints_by_ref, lent: one who has those bytes elsewhere has them read there.
@@ -80,16 +56,10 @@ fn hints_fit(d: Description, held: &[u8]) -> bool
     requires { held.now ≡ d.hints_by_ref }
     ensures { result ≡ hinted d }
 {
-    if 8 < d.hint_bits {
-        return false;
-    }
-    if hint_limit(d.hint_bits) <= d.current_hint {
-        return false;
-    }
-    if all_fit(&d.hints, d.hint_bits) {
-        return all_fit(held, d.hint_bits);
-    }
-    false
+    d.hint_bits <= 8
+        && d.current_hint < hint_limit(d.hint_bits)
+        && all_fit(&d.hints, d.hint_bits)
+        && all_fit(held, d.hint_bits)
 }
 
 // The answer of frame setup: 1, 2 or 0.
@@ -97,16 +67,14 @@ pub fn check_description(d: Description, held: &[u8], present: [u8; 7]) -> u8
     requires { held.now ≡ d.hints_by_ref }
     ensures { result ≡ setup_answer d present }
 {
-    if !limited(
+    let is_limited = limited(
         d.width,
         d.height,
         d.tile_rows,
         d.tile_threads,
         d.frame_threads,
-    ) {
-        return 1;
-    }
-    if !flags_fit(d, present) {
+    );
+    if !(is_limited && flags_fit(d, present)) {
         return 1;
     }
     if hints_fit(d, held) { 0 } else { 2 }
@@ -117,8 +85,7 @@ pub(crate) fn hint(d: Description, r: usize) -> u32
     requires { r < 7 }
     ensures { result ≡ hint_at d r }
 {
-    let hints = d.hints;
-    wide(hints[r])
+    u32::from(d.hints[r])
 }
 
 // The hint that reference r's own frame held for reference m.
@@ -126,8 +93,7 @@ pub(crate) fn held(d: Description, r: usize, m: usize) -> u32
     requires { (r < 7) × (m < 7) }
     ensures { result ≡ held_at d r m }
 {
-    let hints = d.hints_by_ref;
-    wide(hints[7 * r + m])
+    u32::from(d.hints_by_ref[7 * r + m])
 }
 
 // The same, of the hints lent: for a reference that is not fixed the array would be copied first.
@@ -135,5 +101,5 @@ pub fn held_in(held: &[u8], r: usize, m: usize) -> u32
     requires { (length held.now ≡ 49) × (r < 7) × (m < 7) }
     ensures { result ≡ get_or held.now (7 * r + m) 0 }
 {
-    wide(held[7 * r + m])
+    u32::from(held[7 * r + m])
 }

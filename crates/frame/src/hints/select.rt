@@ -6,6 +6,7 @@ ghost use Rattle.frame.specs.hints.Selection.{lent, later, searched, last_wanted
 use crate::hints::description::{Description, held, hint};
 use crate::hints::distances::{ahead, from_current};
 
+// References stay numbers: a record that C hands back holds any byte, and `selectable` judges it.
 pub(crate) const LAST: u8 = 0;
 
 pub const LAST2: u8 = 1;
@@ -18,7 +19,8 @@ pub(crate) const ALTREF2: u8 = 5;
 
 pub const ALTREF: u8 = 6;
 
-// The first n of refs are selected, the others are 0.
+// The first n of refs are selected, the others are 0. A length beside its places: there is no heap,
+// and `as_selection` and `grown_of` speak of both.
 #[derive(Clone, Copy)]
 pub struct Selection {
     pub n: usize,
@@ -43,36 +45,31 @@ impl Selection {
     fn has_room(self, total: usize, wanted: bool) -> bool
         ensures { result ≡ (ltb self.n total && wanted) }
     {
-        if self.n < total { wanted } else { false }
+        self.n < total && wanted
     }
 }
 
-fn is_lent(present: [u8; 7], r: usize) -> bool
+fn is_lent(present: [u8; 7], r: u8) -> bool
     requires { r < 7 }
     ensures { result ≡ lent present r }
 {
-    present[r] == 1
+    present[usize::from(r)] == 1
 }
 
 // A reference whose field is lent and that comes after the current frame.
-fn lent_and_later(d: Description, present: [u8; 7], r: usize) -> bool
+fn lent_and_later(d: Description, present: [u8; 7], r: u8) -> bool
     requires { (hinted d ≡ true) × (r < 7) }
     ensures { result ≡ (lent present r && later d r) }
 {
-    if is_lent(present, r) {
-        return ahead(from_current(d, hint(d, r)));
-    }
-    false
+    is_lent(present, r) && ahead(from_current(d, hint(d, usize::from(r))))
 }
 
 // LAST, unless its own frame's ALTREF is the current GOLDEN.
 fn last_wanted(d: Description, present: [u8; 7]) -> bool
     ensures { result ≡ last_wanted d present }
 {
-    if is_lent(present, LAST as usize) {
-        return held(d, LAST as usize, ALTREF as usize) != hint(d, GOLDEN as usize);
-    }
-    false
+    is_lent(present, LAST)
+        && held(d, usize::from(LAST), usize::from(ALTREF)) != hint(d, usize::from(GOLDEN))
 }
 
 fn total_of(last: bool) -> usize
@@ -84,11 +81,7 @@ fn total_of(last: bool) -> usize
 fn is_searched(d: Description) -> bool
     ensures { result ≡ searched d }
 {
-    if d.temporal == 1 {
-        0 < d.hint_bits
-    } else {
-        false
-    }
+    d.temporal == 1 && 0 < d.hint_bits
 }
 
 fn by_count(d: Description, present: [u8; 7]) -> Selection
@@ -99,11 +92,11 @@ fn by_count(d: Description, present: [u8; 7]) -> Selection
     let total = total_of(last);
     let none = Selection { n: 0, refs: [0; 3] };
     let s = none.grown(last, LAST);
-    let s = s.grown(lent_and_later(d, present, BWDREF as usize), BWDREF);
-    let s = s.grown(lent_and_later(d, present, ALTREF2 as usize), ALTREF2);
-    let room = s.has_room(total, lent_and_later(d, present, ALTREF as usize));
+    let s = s.grown(lent_and_later(d, present, BWDREF), BWDREF);
+    let s = s.grown(lent_and_later(d, present, ALTREF2), ALTREF2);
+    let room = s.has_room(total, lent_and_later(d, present, ALTREF));
     let s = s.grown(room, ALTREF);
-    let room = s.has_room(total, is_lent(present, LAST2 as usize));
+    let room = s.has_room(total, is_lent(present, LAST2));
     s.grown(room, LAST2)
 }
 

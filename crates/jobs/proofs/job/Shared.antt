@@ -2,12 +2,12 @@
 -- Assumes nothing.
 use mathlib.Core.Path.{◌≡◌, refl, sym, ap, ap₂, ◌∙◌}
 use mathlib.Core.Bool.{Bool, true, false, true≢false, ◌&&◌, ◌||◌}
-use Prim.Native.Nat.{ℕ, ◌+◌, ◌-◌, ◌*◌, ◌%◌, ◌≤◌, ◌<◌}
+use Prim.Native.Nat.{ℕ, ◌+◌, ◌-◌, ◌*◌, ◌%◌, ◌≤◌, ◌<◌, max, min}
 use native.Mathlib.Decide.{dec_lt}
 use native.Mathlib.Nat.{mod-lt, mul_assoc, add-mul}
 use native.Mathlib.Omega.{arith}
 use lib.Dec.{eqb, ltb}
-use borrow.Author.Tests.{lt-ltb, ltb-true, eq-eqb, eqb-true}
+use borrow.Author.Tests.{lt-ltb, le-ltb, ltb-true, eq-eqb, eqb-true}
 use Rattle.ground.proofs.Picks.{both}
 use Rattle.ground.proofs.Products.{one_place}
 use Rattle.motion.specs.declared.saving.area.Strip.{Strip}
@@ -40,6 +40,15 @@ overlap-one a e b f h =
     by : Dec (a < b) → a < e → b < f → a < f → b < e → Common a e b f
     by (yes l) k m n o = record { it = b; from = omega arith; to = o; first = omega arith; last = m }
     by (no l) k m n o = record { it = a; from = omega arith; to = k; first = omega arith; last = n }
+
+-- the later start lies before the earlier end
+pub overlap-between : (a e b f : ℕ) → ltb (max a b) (min e f) ≡ overlap a e b f
+overlap-between a e b f = by (dec_lt (max a b) (min e f)) (overlap a e b f) refl
+  where
+    by : Dec (max a b < min e f) → (x : Bool) → overlap a e b f ≡ x → ltb (max a b) (min e f) ≡ overlap a e b f
+    by (yes l) x h = lt-ltb _ _ l ∙ sym (overlap-is a e b f (max a b) (omega arith) (omega (arith, l)) (omega arith) (omega (arith, l)))
+    by (no l) true h = let c = overlap-one a e b f h in absurd (omega (arith, l, c.from, c.to, c.first, c.last))
+    by (no l) false h = le-ltb _ _ (omega (arith, l)) ∙ sym h
 
 -- ---- numbers modulo 16
 

@@ -11,26 +11,21 @@ use motion::saving::save::save_front;
 fn own_front(f: Frame, lent: Lent, n: Lengths, job: Job) -> u8
     ensures { result ≡ own_front f lent n job }
 {
-    let area = job.area;
-    if job.kind == 0 {
-        let fields = n.fields;
-        return load_front(f, area, lent, fields, n.proj);
+    if job.is_load() {
+        load_front(f, job.area, lent, n.fields, n.proj)
+    } else {
+        save_front(f, job.area, job.pass, n.recs, n.saved)
     }
-    save_front(f, area, job.pass, n.recs, n.saved)
 }
 
 // More steps done than there are is judged where the count can be told: after the area.
 pub fn job_front(f: Frame, lent: Lent, n: Lengths, job: Job) -> u8
     ensures { result ≡ job_front f lent n job }
 {
-    if !f.well_formed() {
+    if !f.well_formed() || !lent.well_formed() {
         return 1;
     }
-    if !lent.well_formed() {
-        return 1;
-    }
-    let area = job.area;
-    if !area.well_formed(f.sizes) {
+    if !job.area.well_formed(f.sizes) {
         return 3;
     }
     if count_of(f, job) < job.done {

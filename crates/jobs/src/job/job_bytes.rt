@@ -8,6 +8,7 @@ use crate::job::record::{Batch, Job};
 use cells::pos::Pos8;
 use ground::read::{one_at, size_at, two_at};
 use motion::saving::area::Area;
+use std::array;
 
 // A job in a capture file.
 pub const CAPTURE_JOB: usize = 13;
@@ -42,9 +43,10 @@ fn done_at(s: &[u8], at: usize, size: usize) -> usize
     ensures { result ≡ done_at size s.now at }
 {
     if size < JOB {
-        return 0;
+        0
+    } else {
+        size_at(s, at + CAPTURE_JOB)
     }
-    size_at(s, at + CAPTURE_JOB)
 }
 
 pub fn job_in(s: &[u8], i: usize, size: usize) -> Job
@@ -80,9 +82,10 @@ fn place_in(s: &[u8], i: usize, size: usize) -> Job
     ensures { result ≡ place_in size s.now i }
 {
     if i < s.len() / size {
-        return job_in(s, i, size);
+        job_in(s, i, size)
+    } else {
+        no_job()
     }
-    no_job()
 }
 
 // The batch of jobs of so many bytes each, one behind the other: its first eight, and how many there are.
@@ -90,16 +93,8 @@ pub fn batch_of(s: &[u8], size: usize) -> Batch
     requires { capture_job ≤ size }
     ensures { result ≡ batch_of size s.now }
 {
-    let n = s.len() / size;
-    let jobs = [
-        place_in(s, 0, size),
-        place_in(s, 1, size),
-        place_in(s, 2, size),
-        place_in(s, 3, size),
-        place_in(s, 4, size),
-        place_in(s, 5, size),
-        place_in(s, 6, size),
-        place_in(s, 7, size),
-    ];
-    Batch { n, jobs }
+    Batch {
+        n: s.len() / size,
+        jobs: array::from_fn(|i| place_in(s, i, size)),
+    }
 }

@@ -1,9 +1,9 @@
 // The job's record, and a batch of them.
-ghost use Rattle.std.specs.Prelude.{◌≡◌, true, ◌-◌, ◌≤◌};
+ghost use Rattle.std.specs.Prelude.{◌≡◌, true, ◌≤◌};
 ghost use Rattle.ground.specs.Below.{all_below};
 ghost use Rattle.frame.specs.Record.{well_frame};
 ghost use Rattle.motion.specs.saving.Area.{well_area};
-ghost use Rattle.jobs.specs.job.Job.{job_at, well_kind, well_batch, count_of};
+ghost use Rattle.jobs.specs.job.Job.{job_at, is_load, well_kind, well_batch, count_of};
 
 use frame::extent::sizes::one_to;
 use frame::record::Frame;
@@ -12,10 +12,11 @@ use motion::loading::used::uses_of;
 use motion::saving::area::Area;
 use rows::setup::is_pass;
 
-// kind is 0 for a load and 1 for a save. A load has no use for sby and pass; its pass is judged all
-// the same. done is how many of its steps are done.
+// A load has no use for sby and pass; its pass is judged all the same. done is how many of its steps
+// are done.
 #[derive(Clone, Copy)]
 pub struct Job {
+    // 0 for a load, 1 for a save. Stays a number: a job is read from bytes that hold any, and is judged later.
     pub kind: u8,
     pub area: Area,
     pub sby: usize,
@@ -43,10 +44,14 @@ impl Job {
     pub fn well_kind(self) -> bool
         ensures { result ≡ well_kind self }
     {
-        if 1 < self.kind {
-            return false;
-        }
-        is_pass(self.pass)
+        self.kind <= 1 && is_pass(self.pass)
+    }
+
+    // Whether it is a load: any other kind counts as a save.
+    pub(crate) fn is_load(self) -> bool
+        ensures { result ≡ is_load self }
+    {
+        self.kind == 0
     }
 }
 
@@ -54,16 +59,7 @@ fn are_kinds(batch: Batch) -> bool
     requires { batch.n ≤ 8 }
     ensures { result ≡ all_below batch.n (λ i. well_kind (job_at batch i)) }
 {
-    let jobs = batch.jobs;
-    let mut i: usize = 0;
-    while i < batch.n {
-        let job = jobs[i];
-        if !job.well_kind() {
-            return false;
-        }
-        i += 1;
-    }
-    true
+    batch.jobs[..batch.n].iter().all(|job| job.well_kind())
 }
 
 impl Batch {
@@ -71,20 +67,8 @@ impl Batch {
     pub fn well_formed(self) -> bool
         ensures { result ≡ well_batch self }
     {
-        if one_to(8, self.n) {
-            return are_kinds(self);
-        }
-        false
+        one_to(8, self.n) && are_kinds(self)
     }
-}
-
-fn rows_between(top: usize, bottom: usize) -> usize
-    ensures { result ≡ bottom - top }
-{
-    if top < bottom {
-        return bottom - top;
-    }
-    0
 }
 
 // A load's rows times one more than its used references, or a save's rows.
@@ -92,10 +76,9 @@ pub fn count_of(f: Frame, job: Job) -> usize
     requires { (well_frame f ≡ true) × (well_area f.sizes job.area ≡ true) }
     ensures { result ≡ count_of f job }
 {
-    let area = job.area;
-    if job.kind == 0 {
-        return steps_of(area.window_in(f.sizes), uses_of(f));
+    if job.is_load() {
+        return steps_of(job.area.window_in(f.sizes), uses_of(f));
     }
-    let strip = area.strip_in(f.sizes);
-    rows_between(strip.top.0, strip.bottom.0)
+    let strip = job.area.strip_in(f.sizes);
+    strip.bottom.0.saturating_sub(strip.top.0)
 }

@@ -11,16 +11,7 @@ use motion::saving::area::{Strip, Window};
 fn overlaps(a: usize, e: usize, b: usize, f: usize) -> bool
     ensures { result ≡ overlap a e b f }
 {
-    if e <= a {
-        return false;
-    }
-    if f <= b {
-        return false;
-    }
-    if f <= a {
-        return false;
-    }
-    b < e
+    a.max(b) < e.min(f)
 }
 
 // Whether b is, modulo 16, one of the n numbers from a on.
@@ -36,38 +27,23 @@ fn overlaps_16(a: usize, e: usize, b: usize, f: usize) -> bool
     requires { (e ≤ 65536) × (f ≤ 65536) }
     ensures { result ≡ overlap16 a e b f }
 {
-    if e <= a {
-        return false;
-    }
-    if f <= b {
-        return false;
-    }
-    if is_within_16(a, e - a, b) {
-        return true;
-    }
-    is_within_16(b, f - b, a)
+    a < e && b < f && (is_within_16(a, e - a, b) || is_within_16(b, f - b, a))
 }
 
 fn loads_meet(w: Window, v: Window) -> bool
     requires { (w.bottom.0 ≤ 65536) × (v.bottom.0 ≤ 65536) }
     ensures { result ≡ loads_meet w v }
 {
-    if w.part != v.part {
-        return false;
-    }
-    if !overlaps_16(w.top.0, w.bottom.0, v.top.0, v.bottom.0) {
-        return false;
-    }
-    overlaps(w.left.0, w.right.0, v.left.0, v.right.0)
+    w.part == v.part
+        && overlaps_16(w.top.0, w.bottom.0, v.top.0, v.bottom.0)
+        && overlaps(w.left.0, w.right.0, v.left.0, v.right.0)
 }
 
 fn saves_meet(w: Strip, v: Strip) -> bool
     ensures { result ≡ saves_meet w v }
 {
-    if !overlaps(w.top.0, w.bottom.0, v.top.0, v.bottom.0) {
-        return false;
-    }
-    overlaps(w.left.0, w.limit.0, v.left.0, v.limit.0)
+    overlaps(w.top.0, w.bottom.0, v.top.0, v.bottom.0)
+        && overlaps(w.left.0, w.limit.0, v.left.0, v.limit.0)
 }
 
 // A load and a save write to two buffers.
@@ -75,16 +51,10 @@ pub fn do_meet(f: Frame, i: Job, j: Job) -> bool
     requires { (well_frame f ≡ true) × (well_area f.sizes i.area ≡ true) × (well_area f.sizes j.area ≡ true) }
     ensures { result ≡ meets f i j }
 {
-    let a = i.area;
-    let b = j.area;
-    if i.kind == 0 {
-        if j.kind == 0 {
-            return loads_meet(a.window_in(f.sizes), b.window_in(f.sizes));
-        }
-        return false;
+    let s = f.sizes;
+    match (i.is_load(), j.is_load()) {
+        (true, true) => loads_meet(i.area.window_in(s), j.area.window_in(s)),
+        (false, false) => saves_meet(i.area.strip_in(s), j.area.strip_in(s)),
+        _ => false,
     }
-    if j.kind == 0 {
-        return false;
-    }
-    saves_meet(a.strip_in(f.sizes), b.strip_in(f.sizes))
 }

@@ -1,5 +1,6 @@
 -- The uses of a load: put together one after the other, at most three, each of a field and with distances in range.
 -- Assumes nothing.
+use Rattle.std.specs.Prelude.{Option, None, Some, ℤ}
 use mathlib.Core.Path.{◌≡◌, refl, sym, ap, ◌∙◌, subst⁻¹}
 use mathlib.Core.Bool.{Bool, true, false, ◌&&◌}
 use mathlib.Core.List.{List, [], ◌∷◌, ◌++◌, append-nil}
@@ -15,8 +16,6 @@ use Rattle.ground.specs.Pick.{pick}
 use Rattle.ground.proofs.Belows as belows
 use Rattle.ground.proofs.Picks.{both}
 use Rattle.frame.specs.declared.mfmv.Mfmv.{Mfmv}
-use Rattle.frame.specs.declared.mfmv.Ref2Cur.{Ref2Cur}
-use Rattle.frame.specs.declared.mfmv.Ref2Cur.TheVariants.{Skipped, At}
 use Rattle.frame.specs.declared.record.Frame.{Frame}
 use Rattle.frame.specs.hints.Description.{under}
 use Rattle.frame.specs.Mfmv.{no_mfmv, well_cur, well_mfmv}
@@ -40,10 +39,10 @@ held : {n k : ℕ} {l m : List Used} → n ≡ k → l ≡ m → ◌≡◌ {A = 
 held e f = λ t. record { n = e t; at = f t }
 
 -- one more reference looked at
-taken : (xs : List Used) (m : Mfmv) (r : Ref2Cur) → length xs < 3 → taken_in (held_as xs) m r ≡ held_as (xs ++ use_for m r)
+taken : (xs : List Used) (m : Mfmv) (r : Option ℤ) → length xs < 3 → taken_in (held_as xs) m r ≡ held_as (xs ++ use_for m r)
 unfolding held_as
-taken xs m Skipped h = ap held_as (sym (append-nil xs))
-taken xs m (At z) h =
+taken xs m None h = ap held_as (sym (append-nil xs))
+taken xs m (Some z) h =
     let l = length-append xs (used_as m z ∷ []) in
     let n : length xs + 1 ≡ length (xs ++ (used_as m z ∷ [])) = omega arith in
     let k : 3 - length xs ≡ suc (2 - length xs) = omega arith in
@@ -61,9 +60,9 @@ used-on ms i e h q =
     q ∙ ap (λ (u : Uses). taken_in u (get_or ms i no_mfmv) (get_or ms i no_mfmv).ref2cur) e
     ∙ taken (used_of ms i) (get_or ms i no_mfmv) (get_or ms i no_mfmv).ref2cur h ∙ ap (λ (n : ℕ). held_as (used_of ms n)) (sym k)
 
-use-most : (m : Mfmv) (r : Ref2Cur) → length (use_for m r) ≤ 1
-use-most m Skipped = omega arith
-use-most m (At z) = omega arith
+use-most : (m : Mfmv) (r : Option ℤ) → length (use_for m r) ≤ 1
+use-most m None = omega arith
+use-most m (Some z) = omega arith
 
 pub used-most : (ms : List Mfmv) (n : ℕ) → length (used_of ms n) ≤ n
 unfolding used_of use_of
@@ -93,13 +92,13 @@ short xs h i = by (dec_lt i (length xs))
     by (yes l) = omega (arith, under_at xs 32 i h l)
     by (no l) = let e = get_or-eq_default xs 0 {n = i} (omega arith) in omega arith
 
-able-one : (m : Mfmv) (r : Ref2Cur) → selectable m.reference ≡ true → well_cur r ≡ true → under m.ref2ref 32 ≡ true
+able-one : (m : Mfmv) (r : Option ℤ) → selectable m.reference ≡ true → well_cur r ≡ true → under m.ref2ref 32 ≡ true
     → (i : ℕ) → i < length (use_for m r) → Able (get_or (use_for m r) i no_use)
 unfolding well_cur
-able-one m Skipped s w u i h = absurd (omega arith)
-able-one m (At z) s w u zero h =
+able-one m None s w u i h = absurd (omega arith)
+able-one m (Some z) s w u zero h =
     record { place = low m.reference s; numbers = record { cur = leb-true _ _ w; apart = short m.ref2ref u } }
-able-one m (At z) s w u (suc i) h = absurd (omega arith)
+able-one m (Some z) s w u (suc i) h = absurd (omega arith)
 
 able-of : (m : Mfmv) → well_mfmv m ≡ true → (i : ℕ) → i < length (use_of m) → Able (get_or (use_of m) i no_use)
 unfolding well_mfmv use_of

@@ -1,5 +1,6 @@
 -- The meaning of a save, for its readers: what it leaves as lent, and from which record each cell of its window is.
 -- Assumes nothing.
+use Rattle.std.specs.Prelude.{Option, None, Some}
 use mathlib.Core.Path.{◌≡◌, refl, sym, ap, ◌∙◌}
 use mathlib.Core.Logic.{◌⊎◌, ⊎_elim}
 use mathlib.Core.Bool.{Bool, true, false}
@@ -35,8 +36,6 @@ use Rattle.cells.proofs.Cells.{cell-outside, cell-back}
 use Rattle.frame.specs.declared.hints.distances.RefHint.{RefHint}
 use Rattle.frame.specs.declared.record.Frame.{Frame}
 use Rattle.frame.specs.extent.Sizes.{records}
-use Rattle.rows.specs.declared.table.Place.{Place}
-use Rattle.rows.specs.declared.table.Place.TheVariants.{Absent, At}
 use Rattle.rows.specs.declared.table.RowEntry.{RowEntry}
 use Rattle.rows.specs.Table.{place_at}
 use Rattle.motion.specs.declared.saving.area.Area.{Area}
@@ -74,11 +73,11 @@ pub row_inside : (recs : List ℕ) (total : ℕ) (rows : List RowEntry) (refs : 
 unfolding row_read row_patch place_patch
 row_inside recs total rows refs w y h z = by (place_at rows (entry_of y)) refl
   where
-    by : (p : Place) → p ≡ place_at rows (entry_of y)
+    by : (p : Option ℕ) → p ≡ place_at rows (entry_of y)
         → Inside (5 * (y * w.stride.0 + w.left.0)) (5 * (y * w.stride.0 + w.limit.0)) (place_patch recs refs w y p)
-    by Absent e = tt
-    by (At o) e =
-        let ok = place-walk recs total w (At o) o refl (rw e z) in
+    by None e = tt
+    by (Some o) e =
+        let ok = place-walk recs total w (Some o) o refl (rw e z) in
         let l = row-length recs total refs o w.end.0 w.limit.0 (w.end.0 - w.left.0) w.left.0 (omega arith) h ok in
         ((omega arith, omega arith), tt)
 
@@ -321,7 +320,7 @@ module _ (recs : List ℕ) (f : Frame) (a : Area) (sby pass : ℕ) (field : List
   -- THE MEANING OF A SAVE. Column c's cell of row y is the choice from the record, in the row of records that the table has for y, of the block that covers c.
   pub record From (y c : ℕ) : Type 0 where
     pub o : ℕ
-    pub row : place_at (save_table f a sby pass) (entry_of y) ≡ At o
+    pub row : place_at (save_table f a sby pass) (entry_of y) ≡ Some o
     pub cell : cell_at after (y * f.sizes.stride.0 + c)
         ≡ chosen f.refs (block_on recs o (cover recs o (end_of f.sizes a - a.left.0) a.left.0 c))
     pub covered : (cover recs o (end_of f.sizes a - a.left.0) a.left.0 c ≤ c)
@@ -342,11 +341,11 @@ module _ (recs : List ℕ) (f : Frame) (a : Area) (sby pass : ℕ) (field : List
       at : ℕ
       at = y * f.sizes.stride.0 + c
 
-      by : (p : Place) → place_at (save_table f a sby pass) (entry_of y) ≡ p → From y c
-      by Absent e =
+      by : (p : Option ℕ) → place_at (save_table f a sby pass) (entry_of y) ≡ p → From y c
+      by None e =
           let q : ◌≡◌ {A = ℕ} 6 0 = row-place recs (records f.sizes) (strip_of f.sizes a) (save_table f a sby pass) y (sym e) (reads-row recs f a sby pass (length field) y z h g) (omega arith) in
           absurd (omega arith)
-      by (At o) e =
+      by (Some o) e =
           let d = due recs f a sby pass (length field) refl refl z in
           let q = cut f.sizes a d.sizes d.area in
           let k = row_fits y (bottom_of f.sizes a) f.sizes.stride.0 g in
@@ -361,7 +360,7 @@ module _ (recs : List ℕ) (f : Frame) (a : Area) (sby pass : ℕ) (field : List
                 (λ r p v m. cell_stays (5 * (r * f.sizes.stride.0 + a.left.0)) (5 * (r * f.sizes.stride.0 + limit_of f.sizes a)) at (save_row recs f a sby pass r) m
                 (row-in-window recs f a sby pass (length field) r z (omega arith) v)
                 (beside-row f.sizes.stride.0 a.left.0 (limit_of f.sizes a) y c r (omega (arith, q.end, q.limit)) q.limit (λ i. absurd (omega arith))))
-                ∙ ap (λ (p : Place). cell_at (run (place_patch recs f.refs (strip_of f.sizes a) y p) before) at) e
+                ∙ ap (λ (p : Option ℕ). cell_at (run (place_patch recs f.refs (strip_of f.sizes a) y p) before) at) e
                 ∙ row-cell recs f.refs o (end_of f.sizes a) (y * f.sizes.stride.0) before (end_of f.sizes a - a.left.0) a.left.0 c (omega arith) l u
                 (omega (arith, d.room.cells, q.end, q.limit));
             covered = covers recs o (end_of f.sizes a - a.left.0) a.left.0 c l (omega arith);

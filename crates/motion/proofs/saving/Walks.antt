@@ -1,5 +1,6 @@
 -- A row's walk, block by block: what is read and what is laid where a block starts at column x, and where no block starts any more.
 -- Assumes nothing.
+use Rattle.std.specs.Prelude.{Option, None, Some}
 use mathlib.Core.Path.{◌≡◌, refl, sym, ap, ap₂, ◌∙◌}
 use mathlib.Core.Bool.{Bool, true, false, ◌&&◌, not}
 use mathlib.Core.List.{List, [], ◌++◌}
@@ -23,16 +24,12 @@ use Rattle.ground.proofs.Puts.{put-append, copies_length}
 use Rattle.cells.specs.declared.cell.Cell.{Cell}
 use Rattle.cells.specs.declared.block.Block.{Block}
 use Rattle.cells.specs.declared.size.Dims.{Dims}
-use Rattle.cells.specs.declared.size.Sized.{Sized}
-use Rattle.cells.specs.declared.size.Sized.TheVariants.{Of, Refused}
 use Rattle.cells.specs.Size.{size_of}
 use Rattle.cells.specs.Cell.{cell_bytes}
 use Rattle.cells.specs.Block.{well_block}
 use Rattle.cells.proofs.Sizes.{narrow}
 use Rattle.frame.specs.declared.hints.distances.RefHint.{RefHint}
 use Rattle.frame.specs.Record.{no_hint}
-use Rattle.rows.specs.declared.table.Place.{Place}
-use Rattle.rows.specs.declared.table.Place.TheVariants.{Absent, At}
 use Rattle.rows.specs.declared.table.RowEntry.{RowEntry}
 use Rattle.rows.specs.Table.{place_at}
 use Rattle.motion.specs.declared.saving.area.Strip.{Strip}
@@ -48,12 +45,12 @@ pub wide : (code : ℕ) → Wide (cells_wide code)
 unfolding half_width
 wide code = by (size_of code) refl
   where
-    by : (z : Sized) → size_of code ≡ z → Wide (half_width z)
-    by (Of d) e = let k = narrow code d e in record { some = omega (arith, k.some-w); few = omega (arith, k.few-w) }
-    by Refused e = record { some = lit≤ tt; few = lit≤ tt }
+    by : (z : Option Dims) → size_of code ≡ z → Wide (half_width z)
+    by (Some d) e = let k = narrow code d e in record { some = omega (arith, k.some-w); few = omega (arith, k.few-w) }
+    by None e = record { some = lit≤ tt; few = lit≤ tt }
 
 -- as code finds it, by the two cases of a size
-pub wide_of : (code : ℕ) {r : ℕ} (z : Sized) (d : Dims) → z ≡ size_of code → z ≡ Of d → r ≡ (d.w.0 + 1) / 2
+pub wide_of : (code : ℕ) {r : ℕ} (z : Option Dims) (d : Dims) → z ≡ size_of code → z ≡ Some d → r ≡ (d.w.0 + 1) / 2
     → (r ≡ cells_wide code) × (1 ≤ r) × (r ≤ 16)
 unfolding half_width
 wide_of code {r} z d e k h =
@@ -61,7 +58,7 @@ wide_of code {r} z d e k h =
     let w = wide code in
     (q, omega (arith, w.some), omega (arith, w.few))
 
-pub wide-none : (code : ℕ) (z : Sized) → z ≡ size_of code → z ≡ Refused → (1 ≡ cells_wide code) × (1 ≤ 1) × (1 ≤ 16)
+pub wide-none : (code : ℕ) (z : Option Dims) → z ≡ size_of code → z ≡ None → (1 ≡ cells_wide code) × (1 ≤ 1) × (1 ≤ 16)
 unfolding half_width
 wide-none code z e k = (ap half_width (sym k ∙ e), lit≤ tt, lit≤ tt)
 
@@ -192,11 +189,11 @@ module _ (recs : List ℕ) (refs : List RefHint) (o end : ℕ) where
 
 -- A ROW, by its entry's place: where its columns are none, an entry that is absent does no harm
 module _ (recs : List ℕ) (total : ℕ) (w : Strip) where
-  pub strip-place : (p : Place) → strip_read recs total w p ≡ 0 → w.left.0 < w.end.0 → place_read recs total w p ≡ 0
+  pub strip-place : (p : Option ℕ) → strip_read recs total w p ≡ 0 → w.left.0 < w.end.0 → place_read recs total w p ≡ 0
   unfolding strip_read
   strip-place p z h = sym (pick_true 0 (lt-ltb w.left.0 w.end.0 h)) ∙ z
 
-  pub place-walk : (p : Place) (o : ℕ) → p ≡ At o → strip_read recs total w p ≡ 0
+  pub place-walk : (p : Option ℕ) (o : ℕ) → p ≡ Some o → strip_read recs total w p ≡ 0
       → walk_read recs total o w.end.0 w.limit.0 (w.end.0 - w.left.0) w.left.0 ≡ 0
   unfolding place_read
   place-walk p o e z = by (dec_lt w.left.0 w.end.0)
@@ -205,17 +202,17 @@ module _ (recs : List ℕ) (total : ℕ) (w : Strip) where
       by (yes l) = rw e at (strip-place p z l)
       by (no l) = sym (none_left recs total o w.end.0 w.limit.0 (w.end.0 - w.left.0) w.left.0 (omega arith))
 
-  pub row-place : {p : Place} (rows : List RowEntry) (y : ℕ) → p ≡ place_at rows (entry_of y) → row_read recs total rows w y ≡ 0
+  pub row-place : {p : Option ℕ} (rows : List RowEntry) (y : ℕ) → p ≡ place_at rows (entry_of y) → row_read recs total rows w y ≡ 0
       → w.left.0 < w.end.0 → place_read recs total w p ≡ 0
   unfolding row_read
   row-place rows y e z h = rw e (strip-place (place_at rows (entry_of y)) z h)
 
 module _ (recs : List ℕ) (refs : List RefHint) (w : Strip) (y : ℕ) where
-  pub place-absent : (s : List ℕ) (p : Place) → p ≡ Absent → s ≡ run (place_patch recs refs w y p) s
+  pub place-absent : (s : List ℕ) (p : Option ℕ) → p ≡ None → s ≡ run (place_patch recs refs w y p) s
   unfolding place_patch run
   place-absent s p e = rw e
 
-  pub place_at_lem : (s : List ℕ) {t : List ℕ} (p : Place) (o : ℕ) → p ≡ At o
+  pub place_at_lem : (s : List ℕ) {t : List ℕ} (p : Option ℕ) (o : ℕ) → p ≡ Some o
       → t ≡ put s (5 * (y * w.stride.0 + w.left.0)) (walk_bytes recs refs o w.end.0 (w.end.0 - w.left.0) w.left.0)
       → t ≡ run (place_patch recs refs w y p) s
   unfolding place_patch run

@@ -1,8 +1,7 @@
 -- What the code of a load holds and requires: its uses put together one after the other, and what an admission shows of their fields.
-use Rattle.std.specs.Prelude.{ℕ, ◌+◌, ◌-◌, ◌*◌, ◌/◌, ◌≤◌, ◌<◌, List, get_or, set}
+use Rattle.std.specs.Prelude.{Option, None, Some}
+use Rattle.std.specs.Prelude.{ℕ, ◌+◌, ◌-◌, ◌*◌, ◌/◌, ◌≤◌, ◌<◌, List, get_or, set, ℤ}
 use Rattle.frame.specs.declared.mfmv.Mfmv.{Mfmv}
-use Rattle.frame.specs.declared.mfmv.Ref2Cur.{Ref2Cur}
-use Rattle.frame.specs.declared.mfmv.Ref2Cur.TheVariants.{Skipped, At}
 use Rattle.motion.specs.declared.saving.area.Window.{Window}
 use Rattle.motion.specs.declared.loading.used.Used.{Used}
 use Rattle.motion.specs.declared.loading.used.Uses.{Uses}
@@ -14,9 +13,9 @@ use Rattle.motion.specs.Code.Places.{Bounded, Numbers}
 abbrev pub pushed : Uses → Used → Uses
 pushed us u = record { n = us.n + 1; at = set us.at us.n u }
 
-abbrev pub taken_in : Uses → Mfmv → Ref2Cur → Uses
-taken_in us m Skipped = us
-taken_in us m (At z) = pushed us (used_as m z)
+abbrev pub taken_in : Uses → Mfmv → Option ℤ → Uses
+taken_in us m None = us
+taken_in us m (Some z) = pushed us (used_as m z)
 
 -- what a row of use i needs: one of the three fields, which holds the window's rows
 pub record Fielded (lengths : List ℕ) (w : Window) (i : ℕ) : Type 0 where

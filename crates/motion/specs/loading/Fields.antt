@@ -1,10 +1,12 @@
 -- What a load is lent (document 01, port order 6; refusals 1, 4 and 5): seven fields, of which it uses at most three. They are chosen once; below the choice
 -- `fields` are the used references' own, by the number of the use.
-use Rattle.std.specs.Prelude.{ℕ, ◌*◌, Bool, ◌||◌, not, List, [], ◌∷◌, ltb, eqb, length, get_or}
+use Rattle.std.specs.Prelude.{ℕ, ◌*◌, Bool, ◌||◌, not, List, [], ◌∷◌, ltb, eqb, length, get_or, map}
 use Rattle.cells.specs.declared.cell.Cell.{Cell}
 use Rattle.frame.specs.declared.record.Frame.{Frame}
 use Rattle.frame.specs.hints.Description.{under}
 use Rattle.motion.specs.declared.loading.fields.Lent.{Lent}
+use Rattle.motion.specs.declared.loading.fields.LentFields.{LentFields}
+use Rattle.motion.specs.declared.loading.fields.UsedFields.{UsedFields}
 use Rattle.motion.specs.declared.loading.used.Uses.{Uses}
 use Rattle.motion.specs.landing.Row.{source_at}
 use Rattle.motion.specs.loading.Used.{use_at}
@@ -19,6 +21,13 @@ lent f0 f1 f2 f3 f4 f5 f6 = f0 ∷ f1 ∷ f2 ∷ f3 ∷ f4 ∷ f5 ∷ f6 ∷ []
 
 abbrev pub three : (first second third : List ℕ) → List (List ℕ)
 three first second third = first ∷ second ∷ third ∷ []
+
+-- what the seven hold, and what the used ones hold
+abbrev pub all_lent : LentFields → List (List ℕ)
+all_lent l = map (λ s. s.now) l.slices
+
+abbrev pub all_used : UsedFields → List (List ℕ)
+all_used u = map (λ s. s.now) u.slices
 
 -- THE CHOICE: of the seven those that the uses name. From here on `fields` are the used references' own, by the number of the use.
 unfoldable pub chosen : Uses → List (List ℕ) → List (List ℕ)

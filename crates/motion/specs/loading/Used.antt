@@ -1,8 +1,7 @@
 -- The references that a load uses: selected, and not skipped (document 01, "Jobs and windows").
+use Rattle.std.specs.Prelude.{Option, None, Some}
 use Rattle.std.specs.Prelude.{ℕ, zero, suc, ◌-◌, min, false, List, [], ◌∷◌, ◌++◌, ltb, ℤ, pos, length, get_or, replicate}
 use Rattle.frame.specs.declared.mfmv.Mfmv.{Mfmv}
-use Rattle.frame.specs.declared.mfmv.Ref2Cur.{Ref2Cur}
-use Rattle.frame.specs.declared.mfmv.Ref2Cur.TheVariants.{Skipped, At}
 use Rattle.frame.specs.declared.record.Frame.{Frame}
 use Rattle.frame.specs.Mfmv.{no_mfmv}
 use Rattle.motion.specs.declared.loading.used.Used.{Used}
@@ -12,9 +11,9 @@ use Rattle.motion.specs.declared.loading.used.Uses.{Uses}
 abbrev pub used_as : Mfmv → ℤ → Used
 used_as m z = record { field = m.reference; motion = record { cur = z; apart = m.ref2ref; back = ltb m.reference 4 } }
 
-abbrev pub use_for : Mfmv → Ref2Cur → List Used
-use_for m Skipped = []
-use_for m (At z) = used_as m z ∷ []
+abbrev pub use_for : Mfmv → Option ℤ → List Used
+use_for m None = []
+use_for m (Some z) = used_as m z ∷ []
 
 unfoldable pub use_of : Mfmv → List Used
 use_of m = use_for m m.ref2cur

@@ -1,4 +1,6 @@
 -- The motion field saving process (7.19) as document 01 has it (port order 5; refusals 12, 1, 3 and 4, then each row's reads, 6, 4, 8 and 9).
+use Rattle.std.specs.Prelude.{Option, None, Some}
+use Rattle.cells.specs.declared.size.Dims.{Dims}
 use Rattle.std.specs.Prelude.{ℕ, zero, suc, ◌+◌, ◌-◌, ◌*◌, ◌/◌, ◌%◌, Bool, ◌&&◌, not, List, [], ◌∷◌, ◌++◌, ltb, eqb, pos, nat_abs, length, get_or}
 use Rattle.ground.specs.Pick.{pick}
 use Rattle.ground.specs.Answer.{or_else, accepted}
@@ -9,8 +11,6 @@ use Rattle.ground.specs.Span.{span, first_of}
 use Rattle.vector.specs.Vector.{within}
 use Rattle.cells.specs.declared.cell.Cell.{Cell}
 use Rattle.cells.specs.declared.block.Block.{Block}
-use Rattle.cells.specs.declared.size.Sized.{Sized}
-use Rattle.cells.specs.declared.size.Sized.TheVariants.{Of, Refused}
 use Rattle.cells.specs.Size.{size_of}
 use Rattle.cells.specs.Cell.{cell_bytes}
 use Rattle.cells.specs.Block.{block_at, well_block}
@@ -18,8 +18,6 @@ use Rattle.frame.specs.declared.hints.distances.RefHint.{RefHint}
 use Rattle.frame.specs.declared.record.Frame.{Frame}
 use Rattle.frame.specs.extent.Sizes.{saved_cells, records}
 use Rattle.frame.specs.Record.{no_hint, well_frame}
-use Rattle.rows.specs.declared.table.Place.{Place}
-use Rattle.rows.specs.declared.table.Place.TheVariants.{Absent, At}
 use Rattle.rows.specs.declared.table.RowEntry.{RowEntry}
 use Rattle.rows.specs.Table.{place_at}
 use Rattle.rows.specs.Setup.{is_pass, table_for}
@@ -47,9 +45,9 @@ unfoldable pub chosen : List RefHint → Block → Cell
 chosen refs b = pick (usable refs (second_of_two b)) (second_of_two b) (pick (usable refs (first_of_two b)) (first_of_two b) no_cell)
 
 -- a block's width in cells, halved upwards
-unfoldable pub half_width : Sized → ℕ
-half_width (Of d) = (d.w.0 + 1) / 2
-half_width Refused = 1
+unfoldable pub half_width : Option Dims → ℕ
+half_width (Some d) = (d.w.0 + 1) / 2
+half_width None = 1
 
 abbrev pub cells_wide : ℕ → ℕ
 cells_wide code = half_width (size_of code)
@@ -87,20 +85,20 @@ unfoldable pub entry_of : ℕ → ℕ
 entry_of y = 6 + 2 * (y % 16)
 
 -- a row's reads: its entry is needed where a block is walked
-unfoldable pub place_read : List ℕ → ℕ → Strip → Place → ℕ
-place_read recs total w Absent = 6
-place_read recs total w (At o) = walk_read recs total o w.end.0 w.limit.0 (w.end.0 - w.left.0) w.left.0
+unfoldable pub place_read : List ℕ → ℕ → Strip → Option ℕ → ℕ
+place_read recs total w None = 6
+place_read recs total w (Some o) = walk_read recs total o w.end.0 w.limit.0 (w.end.0 - w.left.0) w.left.0
 
-unfoldable pub strip_read : List ℕ → ℕ → Strip → Place → ℕ
+unfoldable pub strip_read : List ℕ → ℕ → Strip → Option ℕ → ℕ
 strip_read recs total w p = pick (ltb w.left.0 w.end.0) (place_read recs total w p) 0
 
 unfoldable pub row_read : List ℕ → ℕ → List RowEntry → Strip → ℕ → ℕ
 row_read recs total rows w y = strip_read recs total w (place_at rows (entry_of y))
 
 -- THE STEP OF A SAVE: row y's cells, from the left column on
-unfoldable pub place_patch : List ℕ → List RefHint → Strip → ℕ → Place → List Patch
-place_patch recs refs w y Absent = []
-place_patch recs refs w y (At o) =
+unfoldable pub place_patch : List ℕ → List RefHint → Strip → ℕ → Option ℕ → List Patch
+place_patch recs refs w y None = []
+place_patch recs refs w y (Some o) =
     record { at = 5 * (y * w.stride.0 + w.left.0); bytes = walk_bytes recs refs o w.end.0 (w.end.0 - w.left.0) w.left.0 } ∷ []
 
 unfoldable pub row_patch : List ℕ → List RowEntry → List RefHint → Strip → ℕ → List Patch

@@ -20,9 +20,7 @@ pub fn clear_row(proj: &mut [u8], w: Window, y: usize)
     ensures { proj.new ≡ run (clear_row w y) proj.old }
 {
     let row = w.part + y % 16 * w.stride.0;
-    let mut q = w.left.0;
-    while q < w.right.0 {
+    for q in w.left.0..w.right.0 {
         clear_cell(proj, row + q);
-        q += 1;
     }
 }

@@ -28,6 +28,7 @@ pub struct Shift {
     pub x: usize,
 }
 
+#[tactic(auto, unfolding(crate::specs::Code::Places::shift))]
 fn shift_of(back: bool, o: i16) -> usize
     requires { nat_abs o ≤ 16383 }
     ensures { (result ≡ shift back o) × (result < 512) }
@@ -41,21 +42,13 @@ fn shift_of(back: bool, o: i16) -> usize
 }
 
 // Along either axis: in reach of v's own group of 8, and within start..end.
+#[tactic(auto, unfolding(crate::specs::Code::Places::near))]
 pub(crate) fn is_near(slack: usize, start: usize, end: usize, v: usize, p: usize) -> bool
     requires { (slack ≤ 8) × (start ≤ 65536) × (end ≤ 65536) × (v ≤ 65536) × (p < 131072) }
     ensures { result ≡ near slack start end v p }
 {
     let g = v / 8 * 8;
-    if p + slack < g + 256 {
-        return false;
-    }
-    if g + 264 + slack <= p {
-        return false;
-    }
-    if p < start + 256 {
-        return false;
-    }
-    p < end + 256
+    g + 256 <= p + slack && p < g + 264 + slack && start + 256 <= p && p < end + 256
 }
 
 // How far the frame that a cell's vector points to lies before the cell's own; 0: not to be
@@ -102,9 +95,7 @@ pub(crate) fn land_run(
     requires { Stamps w row d e (length proj.old) × (a ≤ e) }
     ensures { proj.new ≡ run (span (stamp w row d c) a e) proj.old }
 {
-    let mut x = a;
-    while x < e {
+    for x in a..e {
         land_one(proj, w, row, d, c, x);
-        x += 1;
     }
 }

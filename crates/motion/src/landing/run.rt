@@ -14,10 +14,7 @@ use cells::cell::{Cell, Ref};
 fn is_alike(a: Cell, b: Cell) -> bool
     ensures { result ≡ true → a ≡ b }
 {
-    if a.mv.is(b.mv) {
-        return a.reference.is(b.reference);
-    }
-    false
+    a == b
 }
 
 // Where the run of cells like c ends that starts at column x; first is the row's first cell.
@@ -25,14 +22,12 @@ fn run_end(src: &[u8], first: usize, x: usize, end: usize, c: Cell) -> usize
     requires { (x < end) × (5 * (first + end) ≤ length src.now) × (c ≡ source_at src.now first x) }
     ensures { Run (source_at src.now first) x end c result }
 {
-    let mut e = x + 1;
-    while e < end {
+    for e in x + 1..end {
         if !is_alike(Cell::read(src, first + e), c) {
             return e;
         }
-        e += 1;
     }
-    e
+    end
 }
 
 // What a cell leaves in the projection: its vector, and the distance for a reference.
@@ -118,6 +113,7 @@ pub fn load_row(src: &[u8], proj: &mut [u8], w: Window, m: Motion, y: usize)
     let end = source_end(w);
     let apart = m.apart;
     let mut x = source_start(w);
+    // Each turn goes on by the run that it read.
     while x < end {
         x = follow(src, first, proj, w, m, &apart, y, x, end);
     }

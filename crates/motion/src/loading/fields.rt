@@ -7,13 +7,15 @@ ghost use Rattle.motion.specs.loading.Used.{use_at};
 use crate::loading::used::Uses;
 use frame::hints::description::all_under;
 
-// How each of the seven fields is lent: 0 where it isn't, else 1.
+// How each of the seven fields is lent: 0 where it isn't, else 1. Stays numbers: C hands them in, and
+// one past 1 is refused.
 #[derive(Clone, Copy)]
 pub struct Lent {
     pub form: [u8; 7],
 }
 
 impl Lent {
+    #[tactic(auto, unfolding(crate::specs::loading::Fields::well_lent))]
     pub fn well_formed(self) -> bool
         ensures { result ≡ well_lent self }
     {
@@ -22,75 +24,66 @@ impl Lent {
     }
 }
 
-// Field k of the seven; past the last an empty one.
-fn field_of<'a>(
-    k: usize,
-    f0: &'a [u8],
-    f1: &'a [u8],
-    f2: &'a [u8],
-    f3: &'a [u8],
-    f4: &'a [u8],
-    f5: &'a [u8],
-    f6: &'a [u8],
-) -> &'a [u8]
-    ensures { result.now ≡ get_or
-        (lent f0.now f1.now f2.now f3.now f4.now f5.now f6.now) k [] }
-{
-    match k {
-        0 => f0,
-        1 => f1,
-        2 => f2,
-        3 => f3,
-        4 => f4,
-        5 => f5,
-        6 => f6,
-        _ => &f6[0..0],
+// The seven lent fields, by number.
+#[derive(Clone, Copy)]
+pub struct LentFields<'a> {
+    pub slices: [&'a [u8]; 7],
+}
+
+// The fields that a load uses, by the number of the use.
+#[derive(Clone, Copy)]
+pub struct UsedFields<'a> {
+    pub slices: [&'a [u8]; 3],
+}
+
+impl<'a> LentFields<'a> {
+    ghost use Rattle.motion.specs.loading.Fields.{all_lent, all_used, chosen};
+
+    // Field k; past the last an empty one.
+    fn field(self, k: usize) -> &'a [u8]
+        ensures { result.now ≡ get_or (all_lent self.entry) k [] }
+    {
+        self.slices.get(k).copied().unwrap_or(&[])
+    }
+
+    // The fields of the uses, chosen from the seven.
+    #[tactic(auto, unfolding(crate::specs::loading::Fields::chosen))]
+    pub fn used(self, us: Uses) -> UsedFields<'a>
+        ensures { all_used result ≡ chosen us (all_lent self.entry) }
+    {
+        let at = us.at;
+        UsedFields {
+            slices: [
+                self.field(at[0].field),
+                self.field(at[1].field),
+                self.field(at[2].field),
+            ],
+        }
     }
 }
 
-// The field of use i, chosen from the seven.
-pub fn used_field<'a>(
-    us: Uses,
-    i: usize,
-    f0: &'a [u8],
-    f1: &'a [u8],
-    f2: &'a [u8],
-    f3: &'a [u8],
-    f4: &'a [u8],
-    f5: &'a [u8],
-    f6: &'a [u8],
-) -> &'a [u8]
-    requires { i < 3 }
-    ensures { result.now ≡ get_or
-        (lent f0.now f1.now f2.now f3.now f4.now f5.now f6.now)
-        (use_at us i).field [] }
-{
-    let at = us.at;
-    let u = at[i];
-    field_of(u.field, f0, f1, f2, f3, f4, f5, f6)
-}
+impl<'a> UsedFields<'a> {
+    ghost use Rattle.motion.specs.loading.Fields.{all_used, lengths_of};
 
-// Of the three chosen the one of use i.
-pub(crate) fn nth_field<'a>(
-    i: usize,
-    first: &'a [u8],
-    second: &'a [u8],
-    third: &'a [u8],
-) -> &'a [u8]
-    requires { i < 3 }
-    ensures { result.now ≡ get_or (three first.now second.now third.now) i [] }
-{
-    match i {
-        0 => first,
-        1 => second,
-        _ => third,
+    // That of use i.
+    pub(crate) fn field(self, i: usize) -> &'a [u8]
+        requires { i < 3 }
+        ensures { result.now ≡ get_or (all_used self.entry) i [] }
+    {
+        self.slices[i]
+    }
+
+    pub fn lengths(self) -> [usize; 3]
+        ensures { result ≡ lengths_of (all_used self.entry) }
+    {
+        self.slices.map(|s| s.len())
     }
 }
 
 fn is_long(need: usize, form: u8, length: usize) -> bool
     ensures { result ≡ (eqb form 0 || not (ltb length need)) }
 {
-    if form == 0 { true } else { need <= length }
+    form == 0 || need <= length
 }
 
 // Each used reference's field, where it is lent, has the needed bytes; lengths are the used fields'.
@@ -100,14 +93,12 @@ pub(crate) fn are_long(need: usize, us: Uses, lent: Lent, lengths: [usize; 3]) -
 {
     let at = us.at;
     let form = lent.form;
-    let mut i: usize = 0;
-    while i < us.n {
+    for i in 0..us.n {
         let u = at[i];
         let k = u.field;
         if !is_long(need, form[k], lengths[i]) {
             return false;
         }
-        i += 1;
     }
     true
 }
@@ -118,14 +109,12 @@ pub(crate) fn are_lent(us: Uses, lent: Lent) -> bool
 {
     let at = us.at;
     let form = lent.form;
-    let mut i: usize = 0;
-    while i < us.n {
+    for i in 0..us.n {
         let u = at[i];
         let k = u.field;
         if form[k] == 0 {
             return false;
         }
-        i += 1;
     }
     true
 }

@@ -2,11 +2,11 @@
 ghost use Rattle.std.specs.Prelude.{◌≡◌, ◌+◌, ◌*◌, ◌≤◌, length};
 ghost use Rattle.ground.specs.Script.{run};
 ghost use Rattle.ground.specs.Span.{span, first_of};
-ghost use Rattle.motion.specs.loading.Fields.{three, lengths_of, cells_of};
+ghost use Rattle.motion.specs.loading.Fields.{all_used, lengths_of, cells_of};
 ghost use Rattle.motion.specs.loading.Load.{steps_of, step_script, step_read, load_front, load_answer, load_script};
 ghost use Rattle.motion.specs.Code.Needs.{Fields};
 
-use crate::loading::fields::{Lent, are_lent, are_long};
+use crate::loading::fields::{Lent, UsedFields, are_lent, are_long};
 use crate::loading::step::{check_step, load_step, steps_of};
 use crate::loading::used::{Uses, uses_of};
 use crate::saving::area::{Area, Window};
@@ -36,75 +36,49 @@ pub fn load_front(f: Frame, a: Area, lent: Lent, lengths: [usize; 3], nproj: usi
     if are_lent(us, lent) { 0 } else { 5 }
 }
 
-fn check_steps<'a>(w: Window, us: Uses, first: &'a [u8], second: &'a [u8], third: &'a [u8]) -> u8
-    requires { Fields (lengths_of (three first.now second.now third.now)) w us }
+fn check_steps(w: Window, us: Uses, fields: UsedFields<'_>) -> u8
+    requires { Fields (lengths_of (all_used fields)) w us }
     ensures { result ≡ first_of
-        (step_read (cells_of (three first.now second.now third.now) w.stride.0) w) 0 (steps_of w us) }
+        (step_read (cells_of (all_used fields.entry) w.stride.0) w) 0 (steps_of w us) }
 {
-    let n = steps_of(w, us);
-    let mut k: usize = 0;
-    while k < n {
-        let answer = check_step(w, k, first, second, third);
+    for k in 0..steps_of(w, us) {
+        let answer = check_step(w, k, fields);
         if answer != 0 {
             return answer;
         }
-        k += 1;
     }
     0
 }
 
-fn load_steps<'a>(
-    w: Window,
-    us: Uses,
-    first: &'a [u8],
-    second: &'a [u8],
-    third: &'a [u8],
-    proj: &mut [u8],
-)
-    requires fields { Fields (lengths_of (three first.now second.now third.now)) w us }
+fn load_steps(w: Window, us: Uses, fields: UsedFields<'_>, proj: &mut [u8])
+    requires fields { Fields (lengths_of (all_used fields)) w us }
     requires stride_in_bounds { 5 * (w.part + 16 * w.stride.0) ≤ length proj.old }
-    requires us_value { first_of (step_read (cells_of (three first.now second.now third.now) w.stride.0) w) 0 (steps_of w us) ≡ 0 }
+    requires us_value { first_of (step_read (cells_of (all_used fields) w.stride.0) w) 0 (steps_of w us) ≡ 0 }
     ensures { proj.new ≡ run
-        (span (step_script (cells_of (three first.now second.now third.now) w.stride.0) w us) 0 (steps_of w us))
+        (span (step_script (cells_of (all_used fields.entry) w.stride.0) w us) 0 (steps_of w us))
         proj.old }
 {
-    let n = steps_of(w, us);
-    let mut k: usize = 0;
-    while k < n {
-        load_step(w, us, k, first, second, third, proj);
-        k += 1;
+    for k in 0..steps_of(w, us) {
+        load_step(w, us, k, fields, proj);
     }
 }
 
-// Loads the motion of rows of cells into the projection, from the saved fields of the first, the
-// second and the third reference that the frame uses. The answer is 0, or a refusal, and then
-// nothing is written.
-pub fn load_tmvs<'a>(
-    f: Frame,
-    a: Area,
-    lent: Lent,
-    first: &'a [u8],
-    second: &'a [u8],
-    third: &'a [u8],
-    proj: &mut [u8],
-) -> u8
-    ensures value { result ≡ load_answer
-        (three first.now second.now third.now) f a lent (length proj.old) }
-    ensures proj_after { proj.new ≡ run
-        (load_script (three first.now second.now third.now) f a lent (length proj.old))
-        proj.old }
+// Loads the motion of rows of cells into the projection, from the saved fields of the references
+// that the frame uses. The answer is 0, or a refusal, and then nothing is written.
+pub fn load_tmvs(f: Frame, a: Area, lent: Lent, fields: UsedFields<'_>, proj: &mut [u8]) -> u8
+    ensures value { result ≡ load_answer (all_used fields.entry) f a lent (length proj.old) }
+    ensures proj_after { proj.new ≡ run (load_script (all_used fields.entry) f a lent (length proj.old)) proj.old }
 {
-    let lengths = [first.len(), second.len(), third.len()];
-    let front = load_front(f, a, lent, lengths, proj.len());
+    let front = load_front(f, a, lent, fields.lengths(), proj.len());
     if front != 0 {
         return front;
     }
     let w = a.window_in(f.sizes);
     let us = uses_of(f);
-    let answer = check_steps(w, us, first, second, third);
+    let answer = check_steps(w, us, fields);
     if answer != 0 {
         return answer;
     }
-    load_steps(w, us, first, second, third, proj);
+    load_steps(w, us, fields, proj);
     0
 }

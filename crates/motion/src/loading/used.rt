@@ -4,9 +4,8 @@ ghost use Rattle.motion.specs.loading.Used.{used_as, held_as, uses_of};
 ghost use Rattle.motion.specs.Code.Needs.{pushed, taken_in};
 
 use crate::landing::land::Motion;
-use frame::mfmv::{Mfmv, Ref2Cur};
+use frame::mfmv::Mfmv;
 use frame::record::Frame;
-use ground::bound::least;
 
 const PLACES: usize = 3;
 
@@ -17,7 +16,7 @@ pub struct Used {
     pub motion: Motion,
 }
 
-// The first n of at are used.
+// The first n of at are used. Stays an array with its count: a library crate has no heap.
 #[derive(Clone, Copy)]
 pub struct Uses {
     pub n: usize,
@@ -55,11 +54,12 @@ fn take_in(us: Uses, m: Mfmv) -> Uses
 {
     let cur = m.ref2cur;
     match cur {
-        Ref2Cur::Skipped => us,
-        Ref2Cur::At(z) => push(us, use_of(m, z)),
+        None => us,
+        Some(z) => push(us, use_of(m, z)),
     }
 }
 
+#[tactic(auto, unfolding(crate::specs::loading::Used::held_as))]
 fn no_uses() -> Uses
     ensures { result ≡ held_as [] }
 {
@@ -80,12 +80,10 @@ pub fn uses_of(f: Frame) -> Uses
     ensures { result ≡ uses_of f }
 {
     let mfmvs = f.mfmvs;
-    let n = least(PLACES, f.n_mfmvs);
+    let n = PLACES.min(f.n_mfmvs);
     let mut us = no_uses();
-    let mut i: usize = 0;
-    while i < n {
+    for i in 0..n {
         us = take_in(us, mfmvs[i]);
-        i += 1;
     }
     us
 }

@@ -5,7 +5,6 @@ ghost use Rattle.motion.specs.saving.Area.{well_area, bottom_of, end_of, limit_o
 
 use cells::pos::Pos8;
 use frame::extent::sizes::Sizes;
-use ground::bound::least;
 use rows::setup::in_frame;
 
 // Columns left..right and rows top..bottom of a tile row, as asked for: not yet cut to the frame.
@@ -44,37 +43,33 @@ pub struct Window {
 }
 
 impl Area {
+    #[tactic(auto, unfolding(crate::specs::saving::Area::well_area))]
     pub fn well_formed(self, s: Sizes) -> bool
         ensures { result ≡ well_area s self }
     {
-        if self.right.0 < self.left.0 {
-            return false;
-        }
-        if s.stride.0 < self.right.0 {
-            return false;
-        }
-        if self.bottom.0 < self.top.0 {
-            return false;
-        }
-        if 16 < self.bottom.0 - self.top.0 {
-            return false;
-        }
-        in_frame(s, self.tile)
+        self.left.0 <= self.right.0
+            && self.right.0 <= s.stride.0
+            && self.top.0 <= self.bottom.0
+            && self.bottom.0 - self.top.0 <= 16
+            && in_frame(s, self.tile)
     }
 
+    #[tactic(auto, unfolding(crate::specs::saving::Area::bottom_of))]
     fn bottom_in(self, s: Sizes) -> Pos8
         ensures { result.0 ≡ bottom_of s self }
     {
-        Pos8(least(self.bottom.0, s.ih8.0))
+        Pos8(self.bottom.0.min(s.ih8.0))
     }
 
+    #[tactic(auto, unfolding(crate::specs::saving::Area::end_of))]
     fn end_in(self, s: Sizes) -> Pos8
         ensures { result.0 ≡ end_of s self }
     {
-        Pos8(least(self.right.0, s.iw8.0))
+        Pos8(self.right.0.min(s.iw8.0))
     }
 
     // Only at the frame's own end may a block reach past the columns that are walked.
+    #[tactic(auto, unfolding(crate::specs::saving::Area::limit_of))]
     fn limit_in(self, s: Sizes) -> Pos8
         ensures { result.0 ≡ limit_of s self }
     {
@@ -82,6 +77,7 @@ impl Area {
         if end.0 < s.iw8.0 { end } else { s.stride }
     }
 
+    #[tactic(auto, unfolding(crate::specs::saving::Area::strip_of))]
     pub fn strip_in(self, s: Sizes) -> Strip
         ensures { result ≡ strip_of s self }
     {

@@ -5,36 +5,30 @@ ghost use Rattle.motion.specs.Code.Walk.{hint_place, usable_by, chosen_by};
 
 use cells::block::Block;
 use cells::cell::{Cell, Ref};
-use cells::size::{Sized, dimensions};
+use cells::size::dimensions;
 use frame::hints::distances::RefHint;
 use vector::mv::Mv;
 
 // Where a reference's hint stands among the seven; for one that has none any place will do.
+#[tactic(auto, unfolding(crate::specs::Code::Walk::hint_place))]
 pub(crate) fn hint_place(r: Ref) -> usize
     ensures { (result ≡ hint_place r.0) × (result ≤ 6) }
 {
-    if r.from_to(1, 7) {
-        return r.place();
-    }
-    0
+    if r.from_to(1, 7) { r.place() } else { 0 }
 }
 
 // A later load can only use a vector that points to a frame before this one, and not too far. The
 // hint is that of the cell's reference.
+#[tactic(auto, unfolding(crate::specs::Code::Walk::usable_by))]
 fn is_usable(hint: RefHint, c: Cell) -> bool
     ensures { result ≡ usable_by hint c }
 {
     let r = c.reference;
-    if !r.from_to(1, 7) {
-        return false;
-    }
-    if hint.mfmv_sign == 0 {
-        return false;
-    }
-    c.mv.within(4095)
+    r.from_to(1, 7) && hint.mfmv_sign != 0 && c.mv.within(4095)
 }
 
 // The second reference first; all zero where neither will do. The hints are those of the two.
+#[tactic(auto, unfolding(crate::specs::Code::Walk::chosen_by))]
 pub(crate) fn choose(hint: RefHint, hint2: RefHint, b: Block) -> Cell
     ensures { result ≡ chosen_by hint hint2 b }
 {
@@ -62,8 +56,8 @@ fn cells_wide(code: u8) -> usize
     ensures { (result ≡ cells_wide code) × (1 ≤ result) × (result ≤ 16) }
 {
     match dimensions(code) {
-        Sized::Of(d) => d.w.halved_up().0,
-        Sized::Refused => 1,
+        Some(d) => d.w.halved_up().0,
+        None => 1,
     }
 }
 

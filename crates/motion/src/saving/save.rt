@@ -37,13 +37,11 @@ fn check_rows(recs: &[u8], f: Frame, a: Area, sby: usize, pass: usize) -> u8
     let s = f.sizes;
     let total = s.records();
     let w = a.strip_in(s);
-    let mut y = w.top.0;
-    while y < w.bottom.0 {
+    for y in w.top.0..w.bottom.0 {
         let answer = check_row(recs, total, w, row_entry(s, a, sby, pass, y));
         if answer != 0 {
             return answer;
         }
-        y += 1;
     }
     0
 }
@@ -57,11 +55,9 @@ fn save_rows(recs: &[u8], f: Frame, a: Area, sby: usize, pass: usize, field: &mu
     let refs = f.refs;
     let total = s.records();
     let w = a.strip_in(s);
-    let mut y = w.top.0;
-    while y < w.bottom.0 {
+    for y in w.top.0..w.bottom.0 {
         let entry = row_entry(s, a, sby, pass, y);
         save_row(recs, total, refs, w, y, entry, field);
-        y += 1;
     }
 }
 

@@ -19,16 +19,13 @@ use cells::pos::Pos8;
 use frame::extent::sizes::Sizes;
 use frame::hints::distances::RefHint;
 use rows::setup::entry_for;
-use rows::table::{Place, RowEntry};
+use rows::table::RowEntry;
 
 // How many cells have a listed record, in a row of records that starts at number o.
 fn listed_cells(total: usize, o: usize) -> usize
     ensures { result ≡ (total - o) / 2 }
 {
-    if o < total {
-        return (total - o) / 2;
-    }
-    0
+    total.saturating_sub(o) / 2
 }
 
 // The record that cell x is saved from, in a row of records that starts at number o.
@@ -41,6 +38,7 @@ fn block_of(recs: &[u8], o: usize, x: usize) -> Block
 
 // Whether the record that cell x is saved from is one of the listed, and well formed. The first n
 // cells have a listed record.
+#[tactic(auto, unfolding(crate::specs::Code::Walk::record_read))]
 fn check_record(recs: &[u8], n: usize, o: usize, x: usize) -> u8
     requires { (x ≤ 65536) × (x < n → 12 * record_of o x + 12 ≤ length recs.now) }
     ensures { result ≡ record_read recs.now n o x }
@@ -68,6 +66,7 @@ fn check_walk(recs: &[u8], total: usize, o: usize, w: Strip) -> u8
     let n = listed_cells(total, o);
     let mut x = w.left.0;
     let mut last = narrowest();
+    // Each turn goes on by the width of the block that it read.
     while x < w.end.0 {
         let answer = check_record(recs, n, o, x);
         if answer != 0 {
@@ -87,12 +86,8 @@ fn fill_cells(field: &mut [u8], c: Cell, at: usize, n: usize)
     requires { 5 * (at + n) ≤ length field.old }
     ensures { field.new ≡ put field.old (5 * at) (copies n (cell_bytes c)) }
 {
-    let mut i = at;
-    let mut left = n;
-    while 0 < left {
+    for i in at..at + n {
         c.write(field, i);
-        i += 1;
-        left -= 1;
     }
 }
 
@@ -114,6 +109,7 @@ fn write_walk(
 {
     let mut x = w.left.0;
     let mut last = narrowest();
+    // Each turn goes on by the width of the block that it read.
     while x < w.end.0 {
         let b = block_of(recs, o, x);
         let by = b.refs;
@@ -126,6 +122,7 @@ fn write_walk(
 }
 
 // The entry of a row of cells: the table's own rows stand behind five above.
+#[tactic(auto, unfolding(crate::specs::saving::Save::entry_of))]
 fn entry_of(y: usize) -> usize
     ensures { (result ≡ entry_of y) × (result < 37) }
 {
@@ -140,17 +137,19 @@ pub fn row_entry(s: Sizes, a: Area, sby: usize, pass: usize, y: usize) -> RowEnt
     entry_for(s, sby, a.tile, pass, entry_of(y))
 }
 
-fn check_place(recs: &[u8], total: usize, w: Strip, p: Place) -> u8
+#[tactic(auto, unfolding(crate::specs::saving::Save::place_read))]
+fn check_place(recs: &[u8], total: usize, w: Strip, p: Option<usize>) -> u8
     requires { (w.end.0 ≤ 65536) × (12 * total ≤ length recs.now) }
     ensures { result ≡ place_read recs.now total w p }
 {
     match p {
-        Place::Absent => 6,
-        Place::At(o) => check_walk(recs, total, o, w),
+        None => 6,
+        Some(o) => check_walk(recs, total, o, w),
     }
 }
 
 // What a row of a save reads, by its entry.
+#[tactic(auto, unfolding(crate::specs::saving::Save::strip_read))]
 pub fn check_row(recs: &[u8], total: usize, w: Strip, entry: RowEntry) -> u8
     requires { (w.end.0 ≤ 65536) × (12 * total ≤ length recs.now) }
     ensures { result ≡ strip_read recs.now total w entry.at }
@@ -177,7 +176,7 @@ pub fn save_row(
     ensures { field.new ≡ run (place_patch recs.now refs w y entry.at) field.old }
 {
     let at = entry.at;
-    if let Place::At(o) = at {
+    if let Some(o) = at {
         write_walk(recs, total, o, refs, w, y * w.stride.0, field);
     }
 }

@@ -19,8 +19,7 @@ use Rattle.ground.proofs.Puts.{copies_length}
 use Rattle.ground.proofs.Scripts.{run-append, inside-append}
 use Rattle.cells.specs.declared.block.Block.{Block}
 use Rattle.cells.specs.Block.{block_bytes, well_block}
-use Rattle.rows.specs.declared.table.Place.{Place}
-use Rattle.rows.specs.declared.table.Place.TheVariants.{Absent, At}
+use Rattle.std.specs.Prelude.{Option, None, Some}
 use Rattle.rows.specs.declared.table.RowEntry.{RowEntry}
 use Rattle.rows.specs.Table.{place_at}
 use Rattle.frame.specs.declared.extent.sizes.Sizes.{Sizes}
@@ -58,7 +57,7 @@ module _ (rows : List RowEntry) (total reach : ℕ) where
   read_first e (suc n) h z = rw (add-one, sub-one) (both-accept (row_read total reach (place_at rows e)) (rows_read rows total reach (suc e) n) z)
 
 -- a row that is there in part of a buffer is there in the whole
-pub row-there : (total reach : ℕ) (p : Place) (o : ℕ) → p ≡ At o → row_read total reach p ≡ 0 → o + reach ≤ total
+pub row-there : (total reach : ℕ) (p : Option ℕ) (o : ℕ) → p ≡ Some o → row_read total reach p ≡ 0 → o + reach ≤ total
 unfolding row_read
 row-there total reach p o e z = leb-true (o + reach) total (by (leb (o + reach) total) (rw e at z))
   where
@@ -66,11 +65,11 @@ row-there total reach p o e z = leb-true (o + reach) total (by (leb (o + reach) 
     by true h = refl
     by false h = absurd (omega arith)
 
-row-wider : (total whole reach : ℕ) (p : Place) → total ≤ whole → row_read total reach p ≡ 0 → row_read whole reach p ≡ 0
+row-wider : (total whole reach : ℕ) (p : Option ℕ) → total ≤ whole → row_read total reach p ≡ 0 → row_read whole reach p ≡ 0
 unfolding row_read
-row-wider total whole reach Absent l z = z
-row-wider total whole reach (At o) l z =
-    let h = row-there total reach (At o) o refl z in
+row-wider total whole reach None l z = z
+row-wider total whole reach (Some o) l z =
+    let h = row-there total reach (Some o) o refl z in
     ap (λ (b : Bool). pick b 0 4) (le-leb (o + reach) whole (omega arith))
 
 pub rows-wider : (rows : List RowEntry) (total whole reach e n : ℕ) → total ≤ whole → rows_read rows total reach e n ≡ 0 → rows_read rows whole reach e n ≡ 0
@@ -82,11 +81,11 @@ rows-wider rows total whole reach e (suc n) l z =
     ∙ rows-wider rows total whole reach (suc e) n l p.1
 
 -- a row, and the rows
-pub row-absent : (s : List ℕ) (block : Block) (x w : ℕ) (p : Place) → p ≡ Absent → s ≡ run (row_patch block x w p) s
+pub row-absent : (s : List ℕ) (block : Block) (x w : ℕ) (p : Option ℕ) → p ≡ None → s ≡ run (row_patch block x w p) s
 unfolding row_patch run
 row-absent s block x w p e = rw e
 
-pub row_at : (s : List ℕ) {t : List ℕ} (block : Block) (x w o : ℕ) (p : Place) → p ≡ At o → t ≡ put s (12 * (o + x)) (copies w (block_bytes block))
+pub row_at : (s : List ℕ) {t : List ℕ} (block : Block) (x w o : ℕ) (p : Option ℕ) → p ≡ Some o → t ≡ put s (12 * (o + x)) (copies w (block_bytes block))
     → t ≡ run (row_patch block x w p) s
 unfolding row_patch run
 row_at s block x w o p e h = h ∙ rw e
@@ -164,11 +163,11 @@ unfolding first_entry
 entry-most y = omega arith
 
 -- Nothing is written past the listed records, whatever the call is given.
-row_inside : (block : Block) (total x w : ℕ) (p : Place) → row_read total (x + w) p ≡ 0 → Inside 0 (12 * total) (row_patch block x w p)
+row_inside : (block : Block) (total x w : ℕ) (p : Option ℕ) → row_read total (x + w) p ≡ 0 → Inside 0 (12 * total) (row_patch block x w p)
 unfolding row_patch
-row_inside block total x w Absent z = tt
-row_inside block total x w (At o) z =
-    let h = row-there total (x + w) (At o) o refl z in
+row_inside block total x w None z = tt
+row_inside block total x w (Some o) z =
+    let h = row-there total (x + w) (Some o) o refl z in
     let l = copies_length w (block_bytes block) in
     ((omega arith, omega arith), tt)
 

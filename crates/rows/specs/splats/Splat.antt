@@ -10,8 +10,7 @@ use Rattle.frame.specs.declared.extent.sizes.Sizes.{Sizes}
 use Rattle.frame.specs.declared.record.Frame.{Frame}
 use Rattle.frame.specs.extent.Sizes.{one_to, records}
 use Rattle.frame.specs.Record.{well_frame}
-use Rattle.rows.specs.declared.table.Place.{Place}
-use Rattle.rows.specs.declared.table.Place.TheVariants.{Absent, At}
+use Rattle.std.specs.Prelude.{Option, None, Some}
 use Rattle.rows.specs.declared.table.RowEntry.{RowEntry}
 use Rattle.rows.specs.declared.setup.TileRange.{TileRange}
 use Rattle.rows.specs.Setup.{Tile}
@@ -34,9 +33,9 @@ unfoldable pub first_entry : ℕ → ℕ
 first_entry y = y % 32 + 5
 
 -- a row's records, from column x to before x + w = reach: absent, or past the listed records
-unfoldable pub row_read : ℕ → ℕ → Place → ℕ
-row_read total reach Absent = 6
-row_read total reach (At o) = pick (leb (o + reach) total) 0 4
+unfoldable pub row_read : ℕ → ℕ → Option ℕ → ℕ
+row_read total reach None = 6
+row_read total reach (Some o) = pick (leb (o + reach) total) 0 4
 
 -- n rows from entry e on, in order
 unfoldable pub rows_read : List RowEntry → ℕ → ℕ → ℕ → ℕ → ℕ
@@ -51,9 +50,9 @@ splat_answer f t b length =
     (rows_read t.rows (records f.sizes) (b.x.0 + b.w.0) (first_entry b.y.0) b.h.0)))
 
 -- one patch for each row: w records from column x on
-unfoldable pub row_patch : Block → (x w : ℕ) → Place → List Patch
-row_patch block x w Absent = []
-row_patch block x w (At o) = record { at = 12 * (o + x); bytes = copies w (block_bytes block) } ∷ []
+unfoldable pub row_patch : Block → (x w : ℕ) → Option ℕ → List Patch
+row_patch block x w None = []
+row_patch block x w (Some o) = record { at = 12 * (o + x); bytes = copies w (block_bytes block) } ∷ []
 
 unfoldable pub row_patches : List RowEntry → Block → (x w e n : ℕ) → List Patch
 row_patches rows block x w e zero = []

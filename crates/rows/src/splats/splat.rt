@@ -8,7 +8,7 @@ ghost use Rattle.frame.specs.extent.Sizes.{well_sizes};
 ghost use Rattle.rows.specs.splats.Splat.{holds, spans, first_entry, row_read, row_patch};
 
 use crate::setup::TileRange;
-use crate::table::{Place, RowEntry};
+use crate::table::RowEntry;
 use cells::block::Block;
 use cells::pos::Pos4;
 use frame::extent::sizes::{Sizes, one_to};
@@ -28,13 +28,7 @@ pub struct Splat {
 pub fn is_in(most: Pos4, r: TileRange, p: Pos4) -> bool
     ensures { result ≡ holds most.0 r p.0 }
 {
-    if p.0 < r.start.0 {
-        return false;
-    }
-    if r.end.0 <= p.0 {
-        return false;
-    }
-    r.end.0 <= most.0
+    r.start.0 <= p.0 && p.0 < r.end.0 && r.end.0 <= most.0
 }
 
 fn has_spans(s: Sizes, b: Splat) -> bool
@@ -42,17 +36,8 @@ fn has_spans(s: Sizes, b: Splat) -> bool
     ensures { result ≡ spans s b }
 {
     let w = b.w.0;
-    if !one_to(32, w) {
-        return false;
-    }
-    if !one_to(32, b.h.0) {
-        return false;
-    }
     let row = s.stride.doubled().0;
-    if row < w {
-        return false;
-    }
-    b.x.0 <= row - w
+    one_to(32, w) && one_to(32, b.h.0) && w <= row && b.x.0 <= row - w
 }
 
 // The tile's columns and rows are all that is asked of it, so that its table isn't handed over.
@@ -60,17 +45,7 @@ pub fn is_placeable(s: Sizes, col: TileRange, row: TileRange, b: Splat) -> bool
     requires { well_sizes s ≡ true }
     ensures { result ≡ (holds s.iw4.0 col b.x.0 && holds s.ih4.0 row b.y.0 && spans s b && well_block b.block) }
 {
-    if !is_in(s.iw4, col, b.x) {
-        return false;
-    }
-    if !is_in(s.ih4, row, b.y) {
-        return false;
-    }
-    if !has_spans(s, b) {
-        return false;
-    }
-    let block = b.block;
-    block.well_formed()
+    is_in(s.iw4, col, b.x) && is_in(s.ih4, row, b.y) && has_spans(s, b) && b.block.well_formed()
 }
 
 pub fn first_entry(y: usize) -> usize
@@ -91,10 +66,9 @@ pub fn read_row(entry: RowEntry, total: usize, reach: usize) -> u8
     requires { reach ≤ total }
     ensures { result ≡ row_read total reach entry.at }
 {
-    let at = entry.at;
-    match at {
-        Place::Absent => 6,
-        Place::At(o) => read_at(o, total, reach),
+    match entry.at {
+        None => 6,
+        Some(o) => read_at(o, total, reach),
     }
 }
 
@@ -103,12 +77,8 @@ fn write_copies(records: &mut [u8], block: Block, at: usize, w: usize)
     requires { 12 * (at + w) ≤ length records.old }
     ensures { records.new ≡ put records.old (12 * at) (copies w (block_bytes block)) }
 {
-    let mut i = at;
-    let mut left = w;
-    while 0 < left {
+    for i in at..at + w {
         block.write(records, i);
-        i += 1;
-        left -= 1;
     }
 }
 
@@ -116,8 +86,7 @@ pub fn write_row(records: &mut [u8], block: Block, x: usize, w: usize, entry: Ro
     requires { row_read (length records.old / 12) (x + w) entry.at ≡ 0 }
     ensures { records.new ≡ run (row_patch block x w entry.at) records.old }
 {
-    let at = entry.at;
-    if let Place::At(o) = at {
+    if let Some(o) = entry.at {
         write_copies(records, block, o + x, w);
     }
 }

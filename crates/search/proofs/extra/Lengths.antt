@@ -11,7 +11,7 @@ use Rattle.ground.specs.Pick.{pick}
 use Rattle.vector.specs.Vector.{zero}
 use Rattle.cells.specs.declared.cell.Ref.{Ref}
 use Rattle.cells.specs.declared.block.Block.{Block}
-use Rattle.cells.specs.declared.block.MvPair.{MvPair}
+use Rattle.cells.specs.Block.{MvPair}
 use Rattle.stack.specs.declared.candidate.Candidate.{Candidate}
 use Rattle.stack.specs.Stack.{State, stands, extended}
 use Rattle.search.specs.declared.extra.lists.Listed.{Listed}

@@ -11,13 +11,15 @@ use lib.ListN.{length}
 use borrow.Author.Tests.{lt-ltb, le-ltb, eq-eqb, ne_eqb}
 use Rattle.ground.proofs.Picks.{pick_true, pick-false}
 use Rattle.cells.specs.declared.cell.Ref.{Ref}
-use Rattle.cells.specs.declared.block.RefPair.{RefPair}
+use Rattle.cells.specs.Block.{RefPair}
 use Rattle.spatial.specs.declared.neighbours.read.Neighbour.{Neighbour}
 use Rattle.layout.specs.TileBytes.{tile_at}
 use Rattle.spatial.specs.declared.neighbours.read.Line.{Line}
 use Rattle.spatial.specs.declared.neighbours.read.NeighbourRead.{NeighbourRead}
 use Rattle.spatial.specs.declared.neighbours.read.NeighbourRead.TheVariants.{Of, Refused}
-use Rattle.spatial.specs.neighbours.Neighbour.{along_of, read_at, line_at}
+use Rattle.spatial.specs.declared.neighbours.records.Records.{Records}
+use Rattle.spatial.specs.neighbours.Neighbour.{along_of}
+use Rattle.spatial.specs.Code.Neighbour.{line_from}
 use Rattle.spatial.proofs.neighbours.Known.{Known, is_known, is_some, some-side, told_line}
 use Rattle.stack.specs.Stack.{State}
 use Rattle.stack.specs.Answered.{Outcome, refused, found}
@@ -28,17 +30,13 @@ use Rattle.search.specs.Code.Pool.{pools_of}
 use Rattle.search.specs.extra.Walk as walk
 use Rattle.search.specs.Code.Walk.{pooled}
 
--- the neighbours of a line, out of a tile's bytes and the records
-abbrev pub line : List ℕ → List ℕ → ℕ → Line → ℕ → NeighbourRead
-line tile recs total l = line_at (read_at (tile_at tile).rows recs total) l
-
 -- an answer a of neighbour x, matched: its number isn't 0, its block is well formed, and it is 1 to 32 units long
-module _ (tile recs : List ℕ) (total : ℕ) (l : Line) (x : ℕ) {a : NeighbourRead} (e : a ≡ line tile recs total l x) where
+module _ (r : Records) (l : Line) (x : ℕ) {a : NeighbourRead} (e : a ≡ line_from r l x) where
   pub some : {m : ℕ} → a ≡ Refused m → eqb m 0 ≡ false
-  some {m} o = let h = is_some (told_line (tile_at tile).rows recs total l x) e o in ne_eqb m 0 (λ z. omega arith)
+  some {m} o = let h = is_some (told_line (tile_at r.tile.now).rows r.recs.now r.total l x) e o in ne_eqb m 0 (λ z. omega arith)
 
   pub known : {k : Neighbour} → a ≡ Of k → Known k
-  known o = is_known (told_line (tile_at tile).rows recs total l x) e o
+  known o = is_known (told_line (tile_at r.tile.now).rows r.recs.now r.total l x) e o
 
   pub strides : (down : Bool) {k : Neighbour} {n : ℕ} → a ≡ Of k → n ≡ along_of down k → (1 ≤ n) × (n ≤ 32)
   strides down {k} o i = let h = some-side down k (known o) in (omega (arith, h.0, i), omega (arith, h.1, i))

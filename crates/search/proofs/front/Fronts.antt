@@ -1,6 +1,6 @@
 -- What a question that is not refused tells: of the frame and the buffers, of the block in its tile, of the references and the global vectors.
 -- Assumes nothing.
-use mathlib.Core.Path.{◌≡◌, refl, sym, ap, ◌∙◌}
+use mathlib.Core.Path.{◌≡◌, sym, ap, ◌∙◌}
 use mathlib.Core.Bool.{Bool, true, false, ◌&&◌, ◌||◌, not}
 use Prim.Native.Nat.{ℕ, ◌*◌, ◌^◌, ◌≤◌, ◌<◌, zero-le}
 use native.Mathlib.Omega.{arith}
@@ -28,12 +28,6 @@ use Rattle.spatial.specs.Code.Site.{Placed}
 use Rattle.cells.specs.Cell.{is_ref}
 use Rattle.search.specs.declared.front.ask.Ask.{Ask}
 use Rattle.search.specs.front.Ask.{flagged, paired, bounded, bounded_refs, askable, find_front, filling_of, global_of, dims_of, site_of}
-
--- the pair ( reference, NONE ) is asked for once more where the first is INTRA
-pub absorbs : (r s t : Bool) → r ≡ (r || (s && r && t))
-absorbs true s t = refl
-absorbs false true t = refl
-absorbs false false t = refl
 
 -- cells of the projection fit the machine's numbers
 pub projected-fit : (s : Sizes) → Fits s → projected_cells s < 2 ^ 36

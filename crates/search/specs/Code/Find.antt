@@ -1,9 +1,8 @@
 -- These definitions follow the code: what a search's struct and numbers stand for, and what its front has shown once it is passed.
-use Rattle.std.specs.Prelude.{ℕ, ◌*◌, ◌≤◌, ◌≡◌, true, eqb}
+use Rattle.std.specs.Prelude.{ℕ, ◌≤◌, ◌≡◌, true, eqb}
 use Rattle.ground.specs.Pick.{pick}
 use Rattle.frame.specs.declared.record.Frame.{Frame}
 use Rattle.frame.specs.Record.{well_frame}
-use Rattle.frame.specs.extent.Sizes.{records}
 use Rattle.rows.specs.Setup.{Tile}
 use Rattle.stack.specs.Code.Found.{Found, live}
 use Rattle.search.specs.declared.front.ask.Ask.{Ask}
@@ -16,9 +15,7 @@ unfoldable pub finding : Findings → Found → SearchOutcome
 finding r s = pick (eqb r.answer 0) (got (record { context = r.context; cands = live s; fill = r.fill })) (refused r.answer)
 
 -- What the front has shown once it is passed.
-pub record Past (f : Frame) (t : Tile) (a : Ask) (nframe ntile nrecs : ℕ) : Type 0 where
+pub record Past (f : Frame) (t : Tile) (a : Ask) (nframe : ℕ) : Type 0 where
   pub frame : 109 ≤ nframe
-  pub tile : 168 ≤ ntile
   pub well : well_frame f ≡ true
   pub asked : askable f.sizes t.col t.row f.use_ref_frame_mvs a ≡ true
-  pub listed : 12 * records f.sizes ≤ nrecs

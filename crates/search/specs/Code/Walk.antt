@@ -1,5 +1,5 @@
 -- These definitions follow the code: what a walk's struct stands for, and what a walk requires of its caller.
-use Rattle.std.specs.Prelude.{ℕ, ◌*◌, ◌^◌, ◌≤◌, ◌<◌, eqb}
+use Rattle.std.specs.Prelude.{ℕ, ◌^◌, ◌≤◌, ◌<◌, eqb}
 use Rattle.ground.specs.Pick.{pick}
 use Rattle.spatial.specs.declared.neighbours.read.Line.{Line}
 use Rattle.search.specs.declared.extra.walk.Pooled.{Pooled}
@@ -9,10 +9,8 @@ use Rattle.search.specs.extra.Walk.{Gathering, refused, gathered}
 unfoldable pub pooled : Pooled → Gathering
 pooled a = pick (eqb a.answer 0) (gathered (pools_of a.pools)) (refused a.answer)
 
--- What a caller sees to.
-pub record Lent (ntile nrecs total : ℕ) (l : Line) (limit : ℕ) : Type 0 where
-  pub tile : 168 ≤ ntile
-  pub recs : 12 * total ≤ nrecs
+-- What a caller sees to: the line's places are no large numbers.
+pub record Walked (l : Line) (limit : ℕ) : Type 0 where
   pub entry : l.entry < 2 ^ 32
   pub col : l.col.0 < 2 ^ 32
   pub short : limit ≤ 16

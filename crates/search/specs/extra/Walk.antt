@@ -2,7 +2,7 @@
 use Rattle.std.specs.Prelude.{ℕ, zero, suc, ◌+◌, Bool, ◌&&◌, List, ltb, length}
 use Rattle.ground.specs.Pick.{pick}
 use Rattle.cells.specs.declared.cell.Ref.{Ref}
-use Rattle.cells.specs.declared.block.RefPair.{RefPair}
+use Rattle.cells.specs.Block.{RefPair}
 use Rattle.spatial.specs.declared.neighbours.read.Neighbour.{Neighbour}
 use Rattle.spatial.specs.declared.neighbours.read.NeighbourRead.{NeighbourRead}
 use Rattle.spatial.specs.declared.neighbours.read.NeighbourRead.TheVariants.{Of, Refused}

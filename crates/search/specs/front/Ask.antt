@@ -1,15 +1,14 @@
 -- What is asked of a search, and what it refuses before it reads: document 01's 1, 10 and 4.
+use Rattle.std.specs.Prelude.{Option, None, Some}
 use Rattle.std.specs.Prelude.{ℕ, ◌*◌, Bool, ◌&&◌, ◌||◌, not, eqb, leb, ltb, pos, negsuc}
 use Rattle.ground.specs.Pick.{pick}
 use Rattle.ground.specs.Sign.{eq_z}
 use Rattle.vector.specs.declared.mv.Mv.{Mv}
 use Rattle.vector.specs.Vector.{zero, invalid, within}
 use Rattle.cells.specs.declared.cell.Ref.{Ref}
-use Rattle.cells.specs.declared.block.MvPair.{MvPair}
-use Rattle.cells.specs.declared.block.RefPair.{RefPair}
+use Rattle.cells.specs.Block.{MvPair}
+use Rattle.cells.specs.Block.{RefPair}
 use Rattle.cells.specs.declared.size.Dims.{Dims}
-use Rattle.cells.specs.declared.size.Sized.{Sized}
-use Rattle.cells.specs.declared.size.Sized.TheVariants.{Of, Refused}
 use Rattle.cells.specs.Size.{size_of}
 use Rattle.frame.specs.declared.extent.sizes.Sizes.{Sizes}
 use Rattle.frame.specs.declared.record.Frame.{Frame}
@@ -79,9 +78,9 @@ unfoldable pub global_of : Ask → MvPair
 global_of a = record { first = filling_of a.refs.first a.gmv.first; second = filling_of a.refs.second a.gmv.second }
 
 -- a code above 21, which is refused, has no sides
-abbrev pub dims_in : Sized → Dims
-dims_in (Of d) = d
-dims_in Refused = record { w = record { 0 = 0 }; h = record { 0 = 0 } }
+abbrev pub dims_in : Option Dims → Dims
+dims_in (Some d) = d
+dims_in None = record { w = record { 0 = 0 }; h = record { 0 = 0 } }
 
 unfoldable pub dims_of : ℕ → Dims
 dims_of code = dims_in (size_of code)

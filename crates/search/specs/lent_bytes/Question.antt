@@ -2,7 +2,7 @@
 use Rattle.std.specs.Prelude.{ℕ, List, get_or}
 use Rattle.ground.specs.Little.{four_at}
 use Rattle.vector.specs.Vector.{mv_at}
-use Rattle.cells.specs.declared.block.MvPair.{MvPair}
+use Rattle.cells.specs.Block.{MvPair}
 use Rattle.cells.specs.Block.{refs_at}
 use Rattle.search.specs.declared.front.ask.Ask.{Ask}
 

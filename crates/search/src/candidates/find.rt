@@ -7,29 +7,18 @@ ghost use Rattle.search.specs.candidates.Plan.{plan_of, stored};
 
 use crate::candidates::plan::{SearchAnswer, planned, slot};
 use crate::front::ask::Ask;
+use crate::source::Source;
 use stack::candidate::Candidate;
 
 // The answer is a refusal, and then nothing is stored, or count and context; weights and used vectors
 // are stored once, at the end.
-pub fn find(
-    stack: &mut [Candidate],
-    frame: &[u8],
-    tile: &[u8],
-    recs: &[u8],
-    proj: &[u8],
-    a: Ask,
-) -> SearchAnswer
-    ensures { (result ≡ (plan_of (length stack.old) frame.now tile.now recs.now proj.now a).answer)
-        × (stack.new ≡ stored stack.old frame.now tile.now recs.now proj.now a) }
+pub fn find(stack: &mut [Candidate], from: Source<'_>, a: Ask) -> SearchAnswer
+    ensures { (result ≡ (plan_of (length stack.old) from.entry.frame.now from.entry.tile.now from.entry.recs.now from.entry.proj.now a).answer)
+        × (stack.new ≡ stored stack.old from.entry.frame.now from.entry.tile.now from.entry.recs.now from.entry.proj.now a) }
 {
-    let p = planned(stack.len(), frame, tile, recs, proj, a);
-    let n = p.n;
-    let f = p.found;
-    let mut i = 0;
-    while i < n {
-        let old = stack[i];
-        stack[i] = slot(old, f, i);
-        i += 1;
+    let p = planned(stack.len(), from, a);
+    for i in 0..p.n {
+        stack[i] = slot(stack[i], p.found, i);
     }
     p.answer
 }

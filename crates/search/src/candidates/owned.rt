@@ -4,20 +4,13 @@ ghost use Rattle.search.specs.candidates.Plan.{stored};
 
 use crate::candidates::find::find;
 use crate::front::ask::Ask;
+use crate::source::Source;
 use stack::candidate::Candidate;
 
 // The records afterwards: the answer is the plan's, for whoever asks it.
-pub fn find_owned(
-    stack: [Candidate; 8],
-    frame: &[u8],
-    tile: &[u8],
-    recs: &[u8],
-    proj: &[u8],
-    a: Ask,
-) -> [Candidate; 8]
-    ensures { result ≡ stored stack frame.now tile.now recs.now proj.now a }
+pub fn find_owned(mut stack: [Candidate; 8], from: Source<'_>, a: Ask) -> [Candidate; 8]
+    ensures { result ≡ stored stack from.entry.frame.now from.entry.tile.now from.entry.recs.now from.entry.proj.now a }
 {
-    let mut t = stack;
-    find(&mut t, frame, tile, recs, proj, a);
-    t
+    find(&mut stack, from, a);
+    stack
 }

@@ -10,6 +10,7 @@ ghost use Rattle.search.specs.candidates.Plan.{eight, plan_for, plan_of, lacking
 
 use crate::find::{Findings, find};
 use crate::front::ask::Ask;
+use crate::source::Source;
 use cells::block::MvPair;
 use layout::frame_bytes::FRAME;
 use layout::tile_bytes::TILE;
@@ -25,7 +26,8 @@ pub enum SearchAnswer {
 }
 
 // The candidates in eight records, zero ones behind them; whether second vectors count; the vector that a
-// single search has in the slots below two that no candidate takes.
+// single search has in the slots below two that no candidate takes. The count stands beside the records,
+// since memory is fixed, and `slot_of` and `plan_for` have both.
 #[derive(Clone, Copy)]
 pub struct Listing {
     pub stack: [Candidate; 8],
@@ -59,12 +61,8 @@ fn list(s: &[u64]) -> [Candidate; 8]
 {
     let none = no_candidate();
     let mut l = [none; 8];
-    let n = count_in(s);
-    let mut i: usize = 0;
-    while i < n {
-        let c = candidate_in(s, i);
-        l[i] = c;
-        i += 1;
+    for i in 0..count_in(s) {
+        l[i] = candidate_in(s, i);
     }
     l
 }
@@ -114,26 +112,20 @@ fn acceptance(r: Findings, s: &[u64], compound: bool) -> Plan
 fn is_lacking(slots: usize, frame: usize, tile: usize) -> bool
     ensures { result ≡ lacking slots frame tile }
 {
-    if slots < SLOTS {
-        return true;
-    }
-    if frame < FRAME {
-        return true;
-    }
-    tile < TILE
+    slots < SLOTS || frame < FRAME || tile < TILE
 }
 
 // The whole search, by value: slots is how many records are lent.
-pub fn planned(slots: usize, frame: &[u8], tile: &[u8], recs: &[u8], proj: &[u8], a: Ask) -> Plan
-    ensures { result ≡ plan_of slots frame.now tile.now recs.now proj.now a }
+pub fn planned(slots: usize, from: Source<'_>, a: Ask) -> Plan
+    ensures { result ≡ plan_of slots from.entry.frame.now from.entry.tile.now from.entry.recs.now from.entry.proj.now a }
 {
     let refs = a.refs;
     let compound = refs.second.is_ref();
-    if is_lacking(slots, frame.len(), tile.len()) {
+    if is_lacking(slots, from.frame.len(), from.tile.len()) {
         return refusal(4, compound);
     }
     let mut s = [0u64; NUMBERS];
-    let r = find(frame, tile, recs, proj, a, &mut s);
+    let r = find(from, a, &mut s);
     if r.answer != 0 {
         return refusal(r.answer, compound);
     }
@@ -144,10 +136,7 @@ pub fn planned(slots: usize, frame: &[u8], tile: &[u8], recs: &[u8], proj: &[u8]
 fn second_of(compound: bool, old: Mv, new: Mv) -> Mv
     ensures { result ≡ pick compound new old }
 {
-    if compound {
-        return new;
-    }
-    old
+    if compound { new } else { old }
 }
 
 // What record i holds afterwards, from what it held.

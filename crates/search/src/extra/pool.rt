@@ -1,26 +1,25 @@
 // What a compound search gathers: for each of its references up to two vectors of that reference, and
 // up to two of others.
-ghost use Rattle.std.specs.Prelude.{◌≡◌, true, [], ◌<◌, length};
+ghost use Rattle.std.specs.Prelude.{◌≡◌, true, ◌<◌};
 ghost use Rattle.vector.specs.Vector.{Within};
 ghost use Rattle.cells.specs.Block.{well_block};
 ghost use Rattle.stack.specs.Code.Numbers.{view_at, count_at, Held};
 ghost use Rattle.cells.specs.Cell.{is_ref};
 ghost use Rattle.search.specs.Code.Pool.{held_in, pool_of, pools_of};
-ghost use Rattle.search.specs.extra.Pool.{pushed, nothing, put, own_of_second, gathered, gathered_by, chosen, pair_at, completed};
+ghost use Rattle.search.specs.extra.Pool.{pushed, nothing, put, gathered, gathered_by, chosen, pair_at, completed};
 
-use crate::extra::lists::{Listed, as_list, turn};
+use crate::extra::lists::{Listed, Single};
 use cells::block::{Block, MvPair, RefPair};
-use cells::cell::Ref;
 use stack::add::{is_first, push};
 use stack::numbers::count_in;
 use vector::mv::Mv;
 
-// The first n of a and b.
+// At most two vectors, in the order in which they were found.
 #[derive(Clone, Copy)]
-pub struct Two {
-    pub n: usize,
-    pub a: Mv,
-    pub b: Mv,
+pub enum Two {
+    Empty,
+    One(Mv),
+    Both(Mv, Mv),
 }
 
 // same: of the pool's own reference; other: of another, turned.
@@ -36,22 +35,14 @@ pub struct Pools {
     pub second: Pool,
 }
 
-fn empty() -> Two
-    ensures { held_in result ≡ [] }
-{
-    Two {
-        n: 0,
-        a: Mv::ZERO,
-        b: Mv::ZERO,
-    }
-}
-
 pub fn no_pools() -> Pools
     ensures { pools_of result ≡ nothing }
 {
-    let same = empty();
-    let other = empty();
-    let pool = Pool { same, other };
+    let none = Two::Empty;
+    let pool = Pool {
+        same: none,
+        other: none,
+    };
     Pools {
         first: pool,
         second: pool,
@@ -63,15 +54,11 @@ impl Two {
     fn push(self, v: Mv) -> Two
         ensures { held_in result ≡ pushed (held_in self) v }
     {
-        let a = self.a;
-        let b = self.b;
-        if self.n == 0 {
-            return Two { n: 1, a: v, b };
+        match self {
+            Two::Empty => Two::One(v),
+            Two::One(a) => Two::Both(a, v),
+            Two::Both(a, b) => Two::Both(a, b),
         }
-        if self.n == 1 {
-            return Two { n: 2, a, b: v };
-        }
-        self
     }
 }
 
@@ -80,107 +67,106 @@ impl Pool {
     fn put_in(self, is_own: bool, own: Mv, turned: Mv) -> Pool
         ensures { pool_of result ≡ put is_own own turned (pool_of self) }
     {
-        let same = self.same;
-        let other = self.other;
         if is_own {
-            let more = same.push(own);
-            return Pool { same: more, other };
+            return Pool {
+                same: self.same.push(own),
+                other: self.other,
+            };
         }
-        let more = other.push(turned);
-        Pool { same, other: more }
+        Pool {
+            same: self.same,
+            other: self.other.push(turned),
+        }
     }
 
-    // The pool's first vector, then its second: its own first, then the others, then the global one.
-    fn choose_first(self, g: Mv) -> Mv
-        ensures { result ≡ chosen (pool_of self) g 0 }
+    // Two vectors of the pool: its own first, then the others, then the global one.
+    fn choose(self, g: Mv) -> (Mv, Mv)
+        ensures { (result.0 ≡ chosen (pool_of self) g 0) × (result.1 ≡ chosen (pool_of self) g 1) }
     {
-        if 0 < self.same.n {
-            return self.same.a;
+        match (self.same, self.other) {
+            (Two::Both(a, b), _) => (a, b),
+            (Two::One(a), Two::Both(b, _)) => (a, b),
+            (Two::One(a), Two::One(b)) => (a, b),
+            (Two::One(a), Two::Empty) => (a, g),
+            (Two::Empty, Two::Both(a, b)) => (a, b),
+            (Two::Empty, Two::One(a)) => (a, g),
+            (Two::Empty, Two::Empty) => (g, g),
         }
-        if 0 < self.other.n {
-            return self.other.a;
-        }
-        g
     }
+}
 
-    fn choose_second(self, g: Mv) -> Mv
-        ensures { result ≡ chosen (pool_of self) g 1 }
+// What a compound search looks for: two references.
+#[derive(Clone, Copy)]
+pub struct Compound<'a> {
+    pub biases: &'a [u8; 7],
+    pub refs: RefPair,
+    pub ghost first: { is_ref refs.first ≡ true },
+    pub ghost second: { is_ref refs.second ≡ true },
+}
+
+impl Compound<'_> {
+    // One list of a neighbour goes to both pools.
+    fn gather_list(self, l: Listed, p: Pools) -> Pools
+        requires { (is_ref l.reference ≡ true) × Within 16383 l.mv }
+        ensures { pools_of result ≡ gathered self.entry.biases.now self.entry.refs l (pools_of p) }
     {
-        if 1 < self.same.n {
-            return self.same.b;
+        let biases = self.biases;
+        let refs = self.refs;
+        let is_first = l.reference == refs.first;
+        // The second pool has a vector as its own only where the first doesn't.
+        let is_second = !is_first && l.reference == refs.second;
+        let one = Single {
+            biases,
+            reference: refs.first,
+        };
+        let two = Single {
+            biases,
+            reference: refs.second,
+        };
+        Pools {
+            first: p.first.put_in(is_first, l.mv, one.turn(l)),
+            second: p.second.put_in(is_second, l.mv, two.turn(l)),
         }
-        if self.same.n == 1 {
-            if 0 < self.other.n {
-                return self.other.a;
-            }
-            return g;
+    }
+
+    pub(crate) fn gather(self, k: Block, p: Pools) -> Pools
+        requires { well_block k ≡ true }
+        ensures { pools_of result ≡ gathered_by self.entry.biases.now self.entry.refs k (pools_of p) }
+    {
+        let mv = k.mv;
+        let refs = k.refs;
+        if !refs.first.is_ref() {
+            return p;
         }
-        if 1 < self.other.n {
-            return self.other.b;
+        let one = Listed {
+            reference: refs.first,
+            mv: mv.first,
+        };
+        let q = self.gather_list(one, p);
+        if !refs.second.is_ref() {
+            return q;
         }
-        g
+        let two = Listed {
+            reference: refs.second,
+            mv: mv.second,
+        };
+        self.gather_list(two, q)
     }
 }
 
-// The second pool has a vector as its own only where the first doesn't.
-fn is_second(is_first: bool, l: Listed, r: Ref) -> bool
-    ensures { result ≡ own_of_second is_first l r }
+// The two pairs that the pools make.
+pub fn pairs(p: Pools, g: MvPair) -> (MvPair, MvPair)
+    ensures { (result.0 ≡ pair_at (pools_of p) g 0) × (result.1 ≡ pair_at (pools_of p) g 1) }
 {
-    if is_first {
-        return false;
-    }
-    l.reference.is(r)
-}
-
-// One list of a neighbour goes to both pools.
-fn gather_list(biases: &[u8], refs: RefPair, l: Listed, p: Pools) -> Pools
-    requires { (length biases.now ≡ 7) × (is_ref refs.first ≡ true) × (is_ref refs.second ≡ true)
-        × (is_ref l.reference ≡ true) × Within 16383 l.mv }
-    ensures { pools_of result ≡ gathered biases.now refs l (pools_of p) }
-{
-    let is_first = l.reference.is(refs.first);
-    let one = turn(biases, refs.first, l);
-    let two = turn(biases, refs.second, l);
-    let mv = l.mv;
-    let first = p.first.put_in(is_first, mv, one);
-    let second = p
-        .second
-        .put_in(is_second(is_first, l, refs.second), mv, two);
-    Pools { first, second }
-}
-
-pub(crate) fn gather(biases: &[u8], refs: RefPair, k: Block, p: Pools) -> Pools
-    requires { (length biases.now ≡ 7) × (is_ref refs.first ≡ true) × (is_ref refs.second ≡ true) × (well_block k ≡ true) }
-    ensures { pools_of result ≡ gathered_by biases.now refs k (pools_of p) }
-{
-    let mv = k.mv;
-    let by = k.refs;
-    if !by.first.is_ref() {
-        return p;
-    }
-    let one = as_list(mv.first, by.first);
-    let q = gather_list(biases, refs, one, p);
-    if !by.second.is_ref() {
-        return q;
-    }
-    let two = as_list(mv.second, by.second);
-    gather_list(biases, refs, two, q)
-}
-
-pub fn first_pair(p: Pools, g: MvPair) -> MvPair
-    ensures { result ≡ pair_at (pools_of p) g 0 }
-{
-    let first = p.first.choose_first(g.first);
-    let second = p.second.choose_first(g.second);
-    MvPair { first, second }
-}
-
-pub fn second_pair(p: Pools, g: MvPair) -> MvPair
-    ensures { result ≡ pair_at (pools_of p) g 1 }
-{
-    let first = p.first.choose_second(g.first);
-    let second = p.second.choose_second(g.second);
-    MvPair { first, second }
+    let (first, third) = p.first.choose(g.first);
+    let (second, fourth) = p.second.choose(g.second);
+    (
+        MvPair { first, second },
+        MvPair {
+            first: third,
+            second: fourth,
+        },
+    )
 }
 
 // Two candidates in all, whatever was found: both pairs, or one of them behind the one candidate.
@@ -191,11 +177,9 @@ pub fn complete(s: &mut [u64], p: MvPair, q: MvPair)
     if count_in(s) == 0 {
         push(s, p);
         push(s, q);
-        return;
-    }
-    if is_first(s, p) {
+    } else if is_first(s, p) {
         push(s, q);
-        return;
+    } else {
+        push(s, p);
     }
-    push(s, p);
 }

@@ -1,19 +1,17 @@
 // The extra search along a line of neighbours, each of which is stepped over whole.
-ghost use Rattle.std.specs.Prelude.{◌≡◌, true, ◌≤◌, length};
+ghost use Rattle.std.specs.Prelude.{◌≡◌, ◌≤◌};
 ghost use Rattle.stack.specs.Code.Numbers.{found_at, view_at, count_at, Held};
 ghost use Rattle.stack.specs.Code.Found.{outcome};
-ghost use Rattle.cells.specs.Cell.{is_ref};
 ghost use Rattle.search.specs.Code.Pool.{pools_of};
 ghost use Rattle.search.specs.extra.Walk.{single_on, compound_on};
-ghost use Rattle.search.specs.Code.Walk.{pooled, Lent};
-ghost use Rattle.spatial.specs.Code.Neighbour.{line_in};
+ghost use Rattle.search.specs.Code.Walk.{pooled, Walked};
+ghost use Rattle.spatial.specs.Code.Neighbour.{line_from};
 
-use crate::extra::lists::extend;
-use crate::extra::pool::{Pools, gather};
-use cells::block::RefPair;
-use cells::cell::Ref;
+use crate::extra::lists::Single;
+use crate::extra::pool::{Compound, Pools};
 use cells::pos::Pos4;
-use spatial::neighbours::read::{Line, NeighbourRead, neighbour_at};
+use spatial::neighbours::read::{Line, NeighbourRead};
+use spatial::neighbours::records::Records;
 use stack::numbers::count_in;
 
 // answer is 0, or a refusal, and then nothing is meant by pools.
@@ -25,33 +23,30 @@ pub struct Pooled {
 
 // A single search stops at two candidates.
 pub fn single_along(
-    tile: &[u8],
-    recs: &[u8],
-    total: usize,
+    records: Records<'_>,
     l: Line,
     limit: Pos4,
-    biases: &[u8],
-    r: Ref,
+    wanted: Single<'_>,
     s: &mut [u64],
 ) -> u8
-    requires { Lent (length tile.now) (length recs.now) total l limit.0 × (length biases.now ≡ 7)
-        × (is_ref r ≡ true) × Held s.old × (count_at s.old ≤ 3) }
+    requires { Walked l limit.0 × Held s.old × (count_at s.old ≤ 3) }
     ensures held { Held s.new × (count_at s.new ≤ 3) }
     ensures s_after { outcome result (found_at s.new)
-        ≡ single_on (line_in tile.now recs.now total l) l.down limit.0 biases.now r
+        ≡ single_on (line_from records.entry l) l.down limit.0 wanted.entry.biases.now wanted.entry.reference
         limit.0 0 (view_at s.old) }
 {
+    // No range: x goes on by what was read.
     let mut x: usize = 0;
     while x < limit.0 {
         if 2 <= count_in(s) {
             return 0;
         }
-        match neighbour_at(tile, recs, total, l, Pos4(x)) {
+        match records.neighbour_at(l, Pos4(x)) {
             NeighbourRead::Refused(n) => {
                 return n;
             }
             NeighbourRead::Of(k) => {
-                extend(biases, r, k.block, s);
+                wanted.extend(k.block, s);
                 x += k.along(l.down).0;
             }
         }
@@ -59,26 +54,24 @@ pub fn single_along(
     0
 }
 
-// A compound one gathers from all of them.
+// A compound one gathers from all of them. It isn't one function with the walk above: that one may stop
+// early and fills the lent stack, and what both share is a loop of six lines.
 pub fn compound_along(
-    tile: &[u8],
-    recs: &[u8],
-    total: usize,
+    records: Records<'_>,
     l: Line,
     limit: Pos4,
-    biases: &[u8],
-    refs: RefPair,
+    wanted: Compound<'_>,
     p: Pools,
 ) -> Pooled
-    requires { Lent (length tile.now) (length recs.now) total l limit.0 × (length biases.now ≡ 7)
-        × (is_ref refs.first ≡ true) × (is_ref refs.second ≡ true) }
+    requires { Walked l limit.0 }
     ensures { pooled result
-        ≡ compound_on (line_in tile.now recs.now total l) l.down limit.0 biases.now refs limit.0 0 (pools_of p) }
+        ≡ compound_on (line_from records.entry l) l.down limit.0 wanted.entry.biases.now wanted.entry.refs limit.0 0 (pools_of p) }
 {
     let mut t = p;
+    // No range: x goes on by what was read.
     let mut x: usize = 0;
     while x < limit.0 {
-        match neighbour_at(tile, recs, total, l, Pos4(x)) {
+        match records.neighbour_at(l, Pos4(x)) {
             NeighbourRead::Refused(n) => {
                 return Pooled {
                     pools: t,
@@ -86,7 +79,7 @@ pub fn compound_along(
                 };
             }
             NeighbourRead::Of(k) => {
-                t = gather(biases, refs, k.block, t);
+                t = wanted.gather(k.block, t);
                 x += k.along(l.down).0;
             }
         }

@@ -8,7 +8,7 @@ ghost use Rattle.search.specs.front.Ask.{replacing_of, want_of, filling_of, glob
 use cells::block::{MvPair, RefPair};
 use cells::cell::Ref;
 use cells::pos::Pos4;
-use cells::size::{Dims, Sized, dimensions};
+use cells::size::{Dims, dimensions};
 use frame::extent::sizes::Sizes;
 use layout::frame_bytes::{sizes_at, use_ref_frame_mvs_in, well_frame};
 use layout::tile_bytes::{columns_at, rows_at};
@@ -38,19 +38,7 @@ pub struct Ask {
 fn are_flags(a: Ask) -> bool
     ensures { result ≡ flagged a }
 {
-    if 1 < a.decoded {
-        return false;
-    }
-    if 1 < a.first_above {
-        return false;
-    }
-    if 1 < a.second_above {
-        return false;
-    }
-    if 1 < a.integer {
-        return false;
-    }
-    a.hp <= 1
+    a.decoded <= 1 && a.first_above <= 1 && a.second_above <= 1 && a.integer <= 1 && a.hp <= 1
 }
 
 // ( 0..7, NONE ) or ( 1..7, 1..7 ); with temporal search on, no reference 0.
@@ -58,59 +46,33 @@ fn are_paired(refs: RefPair, temporal: u8) -> bool
     ensures { result ≡ paired refs temporal }
 {
     if refs.first.is_ref() {
-        if refs.second.is_ref() {
-            return true;
-        }
-        return refs.second.is(Ref::NONE);
+        return refs.second.is_ref() || refs.second == Ref::NONE;
     }
-    if !refs.first.is(Ref::INTRA) {
-        return false;
-    }
-    if !refs.second.is(Ref::NONE) {
-        return false;
-    }
-    temporal == 0
+    refs.first == Ref::INTRA && refs.second == Ref::NONE && temporal == 0
 }
 
 // A global vector that is used is held to ±16,383.
 fn is_bounded(r: Ref, v: Mv) -> bool
     ensures { result ≡ bounded r v }
 {
-    if r.is_ref() {
-        return v.within(16383);
-    }
-    true
+    !r.is_ref() || v.within(16383)
 }
 
 fn are_bounded(a: Ask) -> bool
     ensures { result ≡ bounded_refs a }
 {
-    let refs = a.refs;
-    let gmv = a.gmv;
-    if is_bounded(refs.first, gmv.first) {
-        return is_bounded(refs.second, gmv.second);
-    }
-    false
+    is_bounded(a.refs.first, a.gmv.first) && is_bounded(a.refs.second, a.gmv.second)
 }
 
 // The block starts in its tile, and the tile ends in the frame.
 fn is_askable(s: Sizes, col: TileRange, row: TileRange, temporal: u8, a: Ask) -> bool
     ensures { result ≡ askable s col row temporal a }
 {
-    if 21 < a.bs {
-        return false;
-    }
-    if !is_in(s.iw4, col, a.x) {
-        return false;
-    }
-    if !is_in(s.ih4, row, a.y) {
-        return false;
-    }
-    let refs = a.refs;
-    if !are_paired(refs, temporal) {
-        return false;
-    }
-    are_bounded(a)
+    a.bs <= 21
+        && is_in(s.iw4, col, a.x)
+        && is_in(s.ih4, row, a.y)
+        && are_paired(a.refs, temporal)
+        && are_bounded(a)
 }
 
 // By the lengths of the lent buffers, before any record or cell is read.
@@ -118,10 +80,7 @@ pub fn find_front(frame: &[u8], tile: &[u8], a: Ask, nrecs: usize, nproj: usize)
     requires { (109 ≤ length frame.now) × (168 ≤ length tile.now) }
     ensures { result ≡ find_front (frame_at frame.now) (tile_at tile.now) a nrecs nproj }
 {
-    if !well_frame(frame) {
-        return 1;
-    }
-    if !are_flags(a) {
+    if !well_frame(frame) || !are_flags(a) {
         return 1;
     }
     let s = sizes_at(frame);
@@ -146,12 +105,11 @@ pub fn find_front(frame: &[u8], tile: &[u8], a: Ask, nrecs: usize, nproj: usize)
 fn replacing(r: Ref, above: u8, v: Mv) -> Mv
     ensures { result ≡ replacing_of r above v }
 {
-    if r.is_ref() {
-        if above == 1 {
-            return v;
-        }
+    if r.is_ref() && above == 1 {
+        v
+    } else {
+        Mv::INVALID
     }
-    Mv::INVALID
 }
 
 pub fn want_of(a: Ask) -> Want
@@ -171,10 +129,7 @@ pub fn want_of(a: Ask) -> Want
 fn filling(r: Ref, v: Mv) -> Mv
     ensures { result ≡ filling_of r v }
 {
-    if r.is_ref() {
-        return v;
-    }
-    Mv::ZERO
+    if r.is_ref() { v } else { Mv::ZERO }
 }
 
 pub fn global_of(a: Ask) -> MvPair
@@ -191,8 +146,8 @@ fn dims_of(code: u8) -> Dims
     ensures { result ≡ dims_of code }
 {
     match dimensions(code) {
-        Sized::Of(d) => d,
-        Sized::Refused => Dims {
+        Some(d) => d,
+        None => Dims {
             w: Pos4(0),
             h: Pos4(0),
         },

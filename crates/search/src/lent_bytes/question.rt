@@ -10,7 +10,6 @@ use cells::block::{MvPair, RefPair};
 use cells::cell::Ref;
 use cells::pos::Pos4;
 use ground::read::size_at;
-use ground::twos::signed_byte;
 use vector::mv::Mv;
 
 pub const ASK: usize = 24;
@@ -19,11 +18,9 @@ fn refs_at(s: &[u8]) -> RefPair
     requires { 24 ≤ length s.now }
     ensures { result ≡ refs_at s.now 0 }
 {
-    let first = signed_byte(s[0]);
-    let second = signed_byte(s[1]);
     RefPair {
-        first: Ref(first),
-        second: Ref(second),
+        first: Ref(s[0].cast_signed()),
+        second: Ref(s[1].cast_signed()),
     }
 }
 
@@ -31,9 +28,10 @@ fn globals_at(s: &[u8]) -> MvPair
     requires { 24 ≤ length s.now }
     ensures { result ≡ globals_at s.now }
 {
-    let first = Mv::read(s, 12);
-    let second = Mv::read(s, 17);
-    MvPair { first, second }
+    MvPair {
+        first: Mv::read(s, 12),
+        second: Mv::read(s, 17),
+    }
 }
 
 pub fn ask_at(s: &[u8]) -> Ask

@@ -35,11 +35,8 @@ pub(crate) fn put_candidates(stack: &mut [u8], s: &[u64], compound: bool)
     requires { (96 ≤ length stack.old) × Held s.now }
     ensures { stack.new ≡ run (candidates_script compound (live (found_at s.now))) stack.old }
 {
-    let n = count_in(s);
-    let mut i: usize = 0;
-    while i < n {
+    for i in 0..count_in(s) {
         put_candidate(stack, i, candidate_in(s, i), compound);
-        i += 1;
     }
 }
 
@@ -48,9 +45,7 @@ pub(crate) fn put_fills(stack: &mut [u8], count: usize, fill: Mv)
     requires { 96 ≤ length stack.old }
     ensures { stack.new ≡ run (fills_script fill count) stack.old }
 {
-    let mut i = count;
-    while i < 2 {
+    for i in count..2 {
         fill.write(stack, 12 * i);
-        i += 1;
     }
 }

@@ -9,6 +9,7 @@ ghost use Rattle.search.specs.lent_bytes.Whole.{is_compound, answer_in, stack_sc
 use crate::find::{Findings, find};
 use crate::lent_bytes::question::ask_at;
 use crate::lent_bytes::store::{put_candidates, put_fills};
+use crate::source::Source;
 use stack::numbers::{NUMBERS, count_in};
 
 // Once, at the end.
@@ -56,7 +57,13 @@ pub fn find_into(
     let a = ask_at(ask);
     let refs = a.refs;
     let mut s = [0u64; NUMBERS];
-    let r = find(frame, tile, recs, proj, a, &mut s);
+    let from = Source {
+        frame,
+        tile,
+        recs,
+        proj,
+    };
+    let r = find(from, a, &mut s);
     if r.answer != 0 {
         return r.answer;
     }

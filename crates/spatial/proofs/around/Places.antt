@@ -13,7 +13,6 @@ use Rattle.spatial.proofs.site.Sides.{side-most, limit-most, depth-most, depth-i
 use Rattle.spatial.specs.declared.neighbours.read.Line.{Line}
 use Rattle.spatial.specs.Code.Scan.{Room, Fair}
 use Rattle.spatial.specs.around.Lines.{row_of, odd_of, step_of, near_line, far_line, near_span, far_span}
-use Rattle.spatial.specs.Code.Around.{Lent}
 
 -- the block's row among the 32, and the odd place of a pair, are no large numbers
 pub row-most : (b : Site) → row_of b ≤ 31
@@ -49,16 +48,16 @@ step_fits side least h i = by (ltb side 16)
     by false = (lit≤ tt, lit≤ tt)
 
 -- what a scan asks of its line
-module _ {ntile nrecs total : ℕ} (l : Lent ntile nrecs total) (b : Site) (p : Placed b) where
-  room : (m : Line) → m.entry < 2 ^ 32 → m.col.0 < 2 ^ 32 → Room ntile nrecs total m
-  room m e c = record { tile = l.tile; recs = l.recs; entry = e; col = c }
+module _ (b : Site) (p : Placed b) where
+  room : (m : Line) → m.entry < 2 ^ 32 → m.col.0 < 2 ^ 32 → Room m
+  room m e c = record { entry = e; col = c }
 
-  pub near-room : (down : Bool) → Room ntile nrecs total (near_line down b)
+  pub near-room : (down : Bool) → Room (near_line down b)
   unfolding near_line
   near-room true = room _ (omega (arith, row-most b)) (omega (arith, p.before, p.wide))
   near-room false = room _ (omega (arith, row-most b)) (omega (arith, p.before, p.wide))
 
-  pub far-room : (down : Bool) (n : ℕ) → Room ntile nrecs total (far_line down b n)
+  pub far-room : (down : Bool) (n : ℕ) → Room (far_line down b n)
   unfolding far_line
   far-room true n =
       room _ (omega (arith, row-most b, odd-most (row_of b))) (omega (arith, odd-most (b.x.0 + 1 - 2 * n), p.before, p.wide))

@@ -2,7 +2,7 @@
 -- Assumes nothing.
 use mathlib.Core.Path.{◌≡◌, refl, ◌∙◌, ap}
 use mathlib.Core.Bool.{Bool, true, false}
-use Prim.Native.Nat.{ℕ, ◌+◌, ◌^◌, ◌≤◌, ◌<◌}
+use Prim.Native.Nat.{ℕ, ◌+◌, ◌≤◌, ◌<◌}
 use native.Mathlib.Omega.{arith}
 use lib.Dec.{eqb, lit≤}
 use borrow.Author.Tests.{eq-eqb, ne_eqb, lt-leb, le-ltb}
@@ -39,13 +39,6 @@ two-more h i j = omega arith
 
 pub light : {h : ℕ} (n : ℕ) → h ≤ n → n ≤ 1024 → Light h
 light n h i = record { light = omega arith }
-
--- what the rounds of `far` start from: the corner, and then the first of them
-pub corner-light : {a b : ℕ} → Light b → a ≤ b + 4 → a < 2 ^ 25
-corner-light l h = omega (arith, l.light)
-
-pub round-light : {a b d : ℕ} → Light d → b ≤ d + 4 → a ≤ b + 1024 → a < 2 ^ 25
-round-light l h i = omega (arith, l.light)
 
 -- what `around_by` makes of a scan
 abbrev pub by : Scan → ℕ → ℕ → Around

@@ -1,5 +1,6 @@
 -- What is known of a neighbour that was read, and of the number of a refusal.
 -- Assumes nothing.
+use Rattle.std.specs.Prelude.{Option, None, Some}
 use mathlib.Core.Path.{◌≡◌, refl, sym, ◌∙◌, subst}
 use mathlib.Core.Bool.{Bool, true, false, not}
 use mathlib.Core.List.{List}
@@ -10,13 +11,10 @@ use lib.Dec.{ltb}
 use Rattle.ground.specs.Pick.{pick}
 use Rattle.cells.specs.declared.block.Block.{Block}
 use Rattle.cells.specs.declared.size.Dims.{Dims}
-use Rattle.cells.specs.declared.size.Sized.TheVariants as sized-as
 use Rattle.cells.specs.Block.{block_at, well_block}
 use Rattle.cells.specs.Size.{size_of}
 use Rattle.cells.proofs.Sizes.{narrow, size_is}
 use Rattle.cells.proofs.Blocks.{well-is}
-use Rattle.rows.specs.declared.table.Place.{Place}
-use Rattle.rows.specs.declared.table.Place.TheVariants.{Absent, At}
 use Rattle.rows.specs.declared.table.RowEntry.{RowEntry}
 use Rattle.rows.specs.Table.{place_at}
 use Rattle.spatial.specs.declared.neighbours.read.Neighbour.{Neighbour}
@@ -53,9 +51,9 @@ told-record recs total o col = cases (ltb (o + col) total)
     cases true = told-judged (block_at recs (o + col))
     cases false = inl refl
 
-told-place : (recs : List ℕ) (total col : ℕ) (p : Place) → Told (in_row recs total col p)
-told-place recs total col Absent = inr (inl refl)
-told-place recs total col (At o) = told-record recs total o col
+told-place : (recs : List ℕ) (total col : ℕ) (p : Option ℕ) → Told (in_row recs total col p)
+told-place recs total col None = inr (inl refl)
+told-place recs total col (Some o) = told-record recs total o col
 
 pub told : (rows : List RowEntry) (recs : List ℕ) (total e col : ℕ) → Told (read_at rows recs total e col)
 unfolding read_at
@@ -82,7 +80,7 @@ pub some-side : (down : Bool) (k : Neighbour) → Known k → (1 ≤ along_of do
 unfolding along_of side_of
 some-side down k n = by down (size_is k.block.bs (well-is k.block n.well).code)
   where
-    by : (down : Bool) → (d : Dims) × (size_of k.block.bs ≡ sized-as.Of d) → (1 ≤ side_in down (size_of k.block.bs)) × (side_in down (size_of k.block.bs) ≤ 32)
+    by : (down : Bool) → (d : Dims) × (size_of k.block.bs ≡ Some d) → (1 ≤ side_in down (size_of k.block.bs)) × (side_in down (size_of k.block.bs) ≤ 32)
     by true (d, e) = let h = narrow k.block.bs d e in rw e (h.some-h, h.few-h)
     by false (d, e) = let h = narrow k.block.bs d e in rw e (h.some-w, h.few-w)
 

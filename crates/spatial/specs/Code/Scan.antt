@@ -1,5 +1,5 @@
 -- These definitions follow the code: what a scan's struct and numbers stand for, and what inner routines require of their callers.
-use Rattle.std.specs.Prelude.{ℕ, ◌*◌, ◌^◌, ◌≤◌, ◌<◌, Bool, eqb}
+use Rattle.std.specs.Prelude.{ℕ, ◌^◌, ◌≤◌, ◌<◌, Bool, eqb}
 use Rattle.ground.specs.Pick.{pick}
 use Rattle.stack.specs.Code.Found.{Found, view}
 use Rattle.spatial.specs.declared.neighbours.read.Neighbour.{Neighbour}
@@ -13,10 +13,8 @@ use Rattle.spatial.specs.Scan.{ScanOutcome, refused, found}
 unfoldable pub scanned : Scan → Found → ScanOutcome
 scanned r s = pick (eqb r.answer 0) (found (view s) r.reach) (refused r.answer)
 
--- What a caller sees to: the lent parts are long enough, and the line's places are no large numbers,
-pub record Room (ntile nrecs total : ℕ) (l : Line) : Type 0 where
-  pub tile : 168 ≤ ntile
-  pub recs : 12 * total ≤ nrecs
+-- What a caller sees to: the line's places are no large numbers,
+pub record Room (l : Line) : Type 0 where
   pub entry : l.entry < 2 ^ 32
   pub col : l.col.0 < 2 ^ 32
 

@@ -1,13 +1,11 @@
 -- A neighbour, read: document 01's refusals 6, 4 and 8, in that order.
+use Rattle.std.specs.Prelude.{Option, None, Some}
+use Rattle.cells.specs.declared.size.Dims.{Dims}
 use Rattle.std.specs.Prelude.{ℕ, ◌+◌, Bool, not, List, ltb}
 use Rattle.ground.specs.Pick.{pick}
 use Rattle.cells.specs.declared.block.Block.{Block}
-use Rattle.cells.specs.declared.size.Sized.{Sized}
-use Rattle.cells.specs.declared.size.Sized.TheVariants as sized-as
 use Rattle.cells.specs.Block.{block_at, well_block}
 use Rattle.cells.specs.Size.{size_of}
-use Rattle.rows.specs.declared.table.Place.{Place}
-use Rattle.rows.specs.declared.table.Place.TheVariants.{Absent, At}
 use Rattle.rows.specs.declared.table.RowEntry.{RowEntry}
 use Rattle.rows.specs.Table.{place_at}
 use Rattle.spatial.specs.declared.neighbours.read.Neighbour.{Neighbour}
@@ -22,18 +20,18 @@ judged k = pick (well_block k) (Of (record { block = k })) (Refused 8)
 unfoldable pub record_at : List ℕ → ℕ → ℕ → ℕ → NeighbourRead
 record_at recs total o col = pick (ltb (o + col) total) (judged (block_at recs (o + col))) (Refused 4)
 
-abbrev pub in_row : List ℕ → ℕ → ℕ → Place → NeighbourRead
-in_row recs total col Absent = Refused 6
-in_row recs total col (At o) = record_at recs total o col
+abbrev pub in_row : List ℕ → ℕ → ℕ → Option ℕ → NeighbourRead
+in_row recs total col None = Refused 6
+in_row recs total col (Some o) = record_at recs total o col
 
 -- the record of an entry's row and a column
 unfoldable pub read_at : List RowEntry → List ℕ → ℕ → ℕ → ℕ → NeighbourRead
 read_at rows recs total e col = in_row recs total col (place_at rows e)
 
 -- Along a row and down a column are one: `down` says which. A size code's side along the line; a code that is refused has none.
-abbrev pub side_in : Bool → Sized → ℕ
-side_in down (sized-as.Of d) = pick down d.h.0 d.w.0
-side_in down sized-as.Refused = 0
+abbrev pub side_in : Bool → Option Dims → ℕ
+side_in down (Some d) = pick down d.h.0 d.w.0
+side_in down None = 0
 
 unfoldable pub side_of : Bool → ℕ → ℕ
 side_of down code = side_in down (size_of code)

@@ -3,12 +3,13 @@ ghost use Rattle.std.specs.Prelude.{◌≡◌, ◌+◌, ◌-◌, ◌^◌, ◌≤
 ghost use Rattle.spatial.specs.Code.Scan.{scanned};
 ghost use Rattle.stack.specs.Code.Numbers.{found_at, view_at, heft_at, Held};
 ghost use Rattle.spatial.specs.Code.Site.{Placed};
-ghost use Rattle.spatial.specs.Code.Around.{went, Lent, Light};
+ghost use Rattle.spatial.specs.Code.Around.{went, Light};
 ghost use Rattle.spatial.specs.around.Around.{far_of, has_left, round_of, far_all};
-ghost use Rattle.spatial.specs.Code.Neighbour.{read_in};
+ghost use Rattle.spatial.specs.Code.Neighbour.{read_from};
 
 use crate::around::lines::{far_line, far_span};
 use crate::around::near::{Around, around_by, point_where};
+use crate::neighbours::records::Records;
 use crate::neighbours::want::Want;
 use crate::scan::{Scan, scan_line};
 use crate::site::block::Site;
@@ -18,9 +19,7 @@ use cells::pos::Pos4;
 // scans of the side stand for, before and after. Each part of `far` leaves the next one room for its
 // weights.
 fn scan_far(
-    tile: &[u8],
-    recs: &[u8],
-    total: usize,
+    records: Records<'_>,
     b: Site,
     down: bool,
     n: usize,
@@ -28,27 +27,15 @@ fn scan_far(
     q: Want,
     s: &mut [u64],
 ) -> Scan
-    requires { Lent (length tile.now) (length recs.now) total × Placed b × Held s.old × (heft_at s.old < 2 ^ 26) × (2 ≤ n) × (n ≤ 3) × (reach ≤ 64) }
+    requires { Placed b × Held s.old × (heft_at s.old < 2 ^ 26) × (2 ≤ n) × (n ≤ 3) × (reach ≤ 64) }
     ensures held { Held s.new × (heft_at s.new ≤ heft_at s.old + 512) × (result.reach ≤ reach + 16) }
     ensures s_after { scanned result (found_at s.new)
-        ≡ far_of (read_in tile.now recs.now total) b down n reach q (view_at s.old) }
+        ≡ far_of (read_from records.entry) b down n reach q (view_at s.old) }
 {
-    let none = Scan { answer: 0, reach };
-    if n <= reach {
-        return none;
+    if n <= reach || b.depth(down) < n {
+        return Scan { answer: 0, reach };
     }
-    if b.depth(down) < n {
-        return none;
-    }
-    let r = scan_line(
-        tile,
-        recs,
-        total,
-        far_line(b, down, n),
-        q,
-        far_span(b, down, n),
-        s,
-    );
+    let r = scan_line(records, far_line(b, down, n), q, far_span(b, down, n), s);
     Scan {
         answer: r.answer,
         reach: reach + r.reach,
@@ -56,31 +43,22 @@ fn scan_far(
 }
 
 // Line n of both sides.
-fn round(
-    tile: &[u8],
-    recs: &[u8],
-    total: usize,
-    b: Site,
-    n: usize,
-    q: Want,
-    a: Around,
-    s: &mut [u64],
-) -> Around
-    requires { Lent (length tile.now) (length recs.now) total × Placed b × Held s.old
+fn round(records: Records<'_>, b: Site, n: usize, q: Want, a: Around, s: &mut [u64]) -> Around
+    requires { Placed b × Held s.old
         × (heft_at s.old < 2 ^ 25) × (2 ≤ n) × (n ≤ 3) × (a.above ≤ 32) × (a.left ≤ 32) }
     ensures held { Held s.new × (heft_at s.new ≤ heft_at s.old + 1024)
         × (result.above ≤ a.above + 16) × (result.left ≤ a.left + 16) }
     ensures s_after { went result (found_at s.new)
-        ≡ round_of (read_in tile.now recs.now total) b n q (went a (found_at s.old)) }
+        ≡ round_of (read_from records.entry) b n q (went a (found_at s.old)) }
 {
     if a.answer != 0 {
         return a;
     }
-    let row = scan_far(tile, recs, total, b, false, n, a.above, q, s);
+    let row = scan_far(records, b, false, n, a.above, q, s);
     if row.answer != 0 {
         return around_by(row, 0, 0);
     }
-    let column = scan_far(tile, recs, total, b, true, n, a.left, q, s);
+    let column = scan_far(records, b, true, n, a.left, q, s);
     around_by(column, row.reach, column.reach)
 }
 
@@ -89,40 +67,26 @@ fn has_left(b: Site) -> bool
     requires { Placed b }
     ensures { result ≡ has_left b }
 {
-    if b.depth(false) == 0 {
-        return false;
-    }
-    b.depth(true) != 0
-}
-
-// The column to the left of the block, where there is one.
-fn before(b: Site) -> Pos4
-    ensures { result.0 ≡ b.x.0 - 1 }
-{
-    if b.x.0 == 0 {
-        return Pos4(0);
-    }
-    Pos4(b.x.0 - 1)
+    b.depth(false) != 0 && b.depth(true) != 0
 }
 
 // above and left are what `near` gave.
 pub fn far(
-    tile: &[u8],
-    recs: &[u8],
-    total: usize,
+    records: Records<'_>,
     b: Site,
     above: usize,
     left: usize,
     q: Want,
     s: &mut [u64],
 ) -> Around
-    requires { Lent (length tile.now) (length recs.now) total × Placed b × Held s.old × Light (heft_at s.old) × (above ≤ 16) × (left ≤ 16) }
+    requires { Placed b × Held s.old × Light (heft_at s.old) × (above ≤ 16) × (left ≤ 16) }
     ensures held { Held s.new }
     ensures s_after { went result (found_at s.new)
-        ≡ far_all (read_in tile.now recs.now total) b above left q (view_at s.old) }
+        ≡ far_all (read_from records.entry) b above left q (view_at s.old) }
 {
-    let corner = point_where(has_left(b), tile, recs, total, b, before(b), q, s);
+    let before = Pos4(b.x.0.saturating_sub(1));
+    let corner = point_where(has_left(b), records, b, before, q, s);
     let one = around_by(corner, above, left);
-    let two = round(tile, recs, total, b, 2, q, one, s);
-    round(tile, recs, total, b, 3, q, two, s)
+    let two = round(records, b, 2, q, one, s);
+    round(records, b, 3, q, two, s)
 }

@@ -1,15 +1,14 @@
-// A neighbour's record, by its row's entry in the table and its column. Rows and columns of
-// neighbours are one thing, a line along which places are counted.
-ghost use Rattle.std.specs.Prelude.{◌≡◌, ◌+◌, ◌*◌, ◌≤◌, ◌<◌, ◌^◌, length};
-ghost use Rattle.spatial.specs.neighbours.Neighbour.{judged, record_at, side_of, along_of, across_of, entry_of, col_of};
-ghost use Rattle.spatial.specs.Code.Neighbour.{read_in, line_in};
+// A neighbour, and the line on which it lies. Rows and columns of neighbours are one thing, a line
+// along which places are counted.
+ghost use Rattle.std.specs.Prelude.{◌≡◌, ◌+◌, ◌<◌, ◌^◌};
+ghost use Rattle.spatial.specs.neighbours.Neighbour.{judged, side_of, along_of, across_of, entry_of, col_of};
 
 use cells::block::Block;
 use cells::pos::Pos4;
-use cells::size::{Sized, dimensions};
-use layout::tile_bytes::entry_in;
-use rows::table::Place;
+use cells::size::dimensions;
 
+// A record that was read and is well formed. It has no invariant that says so: `judged` makes it under a
+// test, where a definition has no proof at hand.
 #[derive(Clone, Copy)]
 pub struct Neighbour {
     pub block: Block,
@@ -34,8 +33,8 @@ fn side(code: u8, down: bool) -> Pos4
     ensures { result.0 ≡ side_of down code }
 {
     match dimensions(code) {
-        Sized::Refused => Pos4(0),
-        Sized::Of(d) => {
+        None => Pos4(0),
+        Some(d) => {
             if down {
                 return d.h;
             }
@@ -61,7 +60,7 @@ impl Neighbour {
 }
 
 impl Line {
-    fn entry_at(self, i: Pos4) -> usize
+    pub(crate) fn entry_at(self, i: Pos4) -> usize
         requires { self.entry + i.0 < 2 ^ 64 }
         ensures { result ≡ entry_of self i.0 }
     {
@@ -71,7 +70,7 @@ impl Line {
         self.entry
     }
 
-    fn col_at(self, i: Pos4) -> Pos4
+    pub(crate) fn col_at(self, i: Pos4) -> Pos4
         requires { self.col.0 + i.0 < 2 ^ 64 }
         ensures { result.0 ≡ col_of self i.0 }
     {
@@ -83,46 +82,11 @@ impl Line {
 }
 
 // 8 where it isn't well formed.
-fn judge(k: Block) -> NeighbourRead
+pub(crate) fn judge(k: Block) -> NeighbourRead
     ensures { result ≡ judged k }
 {
     if k.well_formed() {
         return NeighbourRead::Of(Neighbour { block: k });
     }
     NeighbourRead::Refused(8)
-}
-
-// 4 past the listed records, of which there are total.
-fn record_at(recs: &[u8], total: usize, o: usize, col: Pos4) -> NeighbourRead
-    requires { 12 * total ≤ length recs.now }
-    ensures { result ≡ record_at recs.now total o col.0 }
-{
-    if total <= o {
-        return NeighbourRead::Refused(4);
-    }
-    if total - o <= col.0 {
-        return NeighbourRead::Refused(4);
-    }
-    judge(Block::read(recs, o + col.0))
-}
-
-// 6 where the entry is absent.
-pub fn read_at(tile: &[u8], recs: &[u8], total: usize, e: usize, col: Pos4) -> NeighbourRead
-    requires { (168 ≤ length tile.now) × (12 * total ≤ length recs.now) }
-    ensures { result ≡ read_in tile.now recs.now total e col.0 }
-{
-    let entry = entry_in(tile, e);
-    let at = entry.at;
-    match at {
-        Place::Absent => NeighbourRead::Refused(6),
-        Place::At(o) => record_at(recs, total, o, col),
-    }
-}
-
-// The neighbour i along the line.
-pub fn neighbour_at(tile: &[u8], recs: &[u8], total: usize, l: Line, i: Pos4) -> NeighbourRead
-    requires { (168 ≤ length tile.now) × (12 * total ≤ length recs.now) × (l.entry + i.0 < 2 ^ 64) × (l.col.0 + i.0 < 2 ^ 64) }
-    ensures { result ≡ line_in tile.now recs.now total l i.0 }
-{
-    read_at(tile, recs, total, l.entry_at(i), l.col_at(i))
 }

@@ -5,7 +5,6 @@ ghost use Rattle.spatial.specs.site.Site.{side_of, rest_of, limit_of, behind_of,
 ghost use Rattle.spatial.specs.Code.Site.{Placed};
 
 use cells::pos::Pos4;
-use ground::bound::least;
 use rows::setup::TileRange;
 
 // Its first row and column, its width and height, and the tile's columns and rows.
@@ -46,8 +45,7 @@ impl Site {
         requires { Placed self }
         ensures { result.0 ≡ limit_of down self }
     {
-        let most = least(self.side(down).0, 16);
-        Pos4(least(most, self.rest(down).0))
+        Pos4(self.side(down).0.min(16).min(self.rest(down).0))
     }
 
     // From the tile's start to the side.
@@ -67,10 +65,8 @@ impl Site {
         requires { Placed self }
         ensures { result ≡ depth_of down self }
     {
-        least(
-            self.behind(down).halved_up().0,
-            most_lines(self.side(!down)),
-        )
+        let lines = self.behind(down).halved_up().0;
+        lines.min(most_lines(self.side(!down)))
     }
 }
 

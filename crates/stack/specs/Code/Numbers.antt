@@ -2,7 +2,7 @@
 use Rattle.std.specs.Prelude.{ℕ, ◌+◌, ◌*◌, ◌/◌, ◌%◌, ◌≤◌, ◌≡◌, Bool, true, not, List, eqb, length, get_or}
 use Rattle.ground.specs.Tab.{tab}
 use Rattle.vector.specs.Vector.{mv_bits, mv_of}
-use Rattle.cells.specs.declared.block.MvPair.{MvPair}
+use Rattle.cells.specs.Block.{MvPair}
 use Rattle.stack.specs.declared.candidate.Candidate.{Candidate}
 use Rattle.stack.specs.declared.numbers.Flag.{Flag}
 use Rattle.stack.specs.declared.numbers.Flag.TheVariants.{NewMv, Above, Left}

@@ -19,6 +19,6 @@ pub returns-then-reference-le-LAST2 : goal.returns-then-reference-le-LAST2
 unfolding towards
 returns-then-reference-le-LAST2 c = let s = c in let f = sym (c.is_far.ensures ∙ ap far (to_z-of_z s.ranges.z)) ∙ c.if-is_far.false in rw (f, le-leb _ _ c.if-reference-le-LAST2.true, minus-back w16 s.args.z (near_fits s.args.z f))
 
-pub returns : goal.returns
+pub returns-else-reference-le-LAST2 : goal.returns-else-reference-le-LAST2
 unfolding towards
-returns c = let s = c in let f = sym (c.is_far.ensures ∙ ap far (to_z-of_z s.ranges.z)) ∙ c.if-is_far.false in rw (f, lt-leb _ _ c.if-reference-le-LAST2.false, to_z-of_z s.ranges.z)
+returns-else-reference-le-LAST2 c = let s = c in let f = sym (c.is_far.ensures ∙ ap far (to_z-of_z s.ranges.z)) ∙ c.if-is_far.false in rw (f, lt-leb _ _ c.if-reference-le-LAST2.false, to_z-of_z s.ranges.z)

@@ -1,22 +1,18 @@
 -- `ground::twos::write_half` meets its contract.
-use native.Mathlib.Omega.{arith}
-use mathlib.Core.Path.{ap, ◌∙◌}
-use Prim.Native.Nat.{ℕ, suc, ◌/◌, ◌%◌}
+use mathlib.Core.Path.{◌≡◌}
+use Prim.Native.Nat.{◌/◌, ◌%◌}
 use native.Mathlib.Numerals.{add-one}
-use lib.ListN.{set, length-set}
+use native.Mathlib.Omega.{arith}
 use mir.Syntax.{w16}
-use mir.Val.{of_z}
+use mir.ValLaws.{of_z_fits}
 use mir.Facts.{to_z-of_z}
 use Rattle.ground.specs.Put.{put}
+use Rattle.ground.specs.Twos.{bits16}
 use Rattle.ground.proofs.twos.write_half.Goals as goal
-
-pub bounds-s-at-2 : goal.bounds-s-at-2
-bounds-s-at-2 c = simp length-set (omega arith)
 
 pub returns : goal.returns
 unfolding put
 returns c =
-    let a = c.args in
-    rw add-one
-    (ap (λ (n : ℕ). set (set a.s.now a.at (n % 256)) (suc a.at) (n / 256))
-    (c.half_bits-n.ensures ∙ ap (of_z w16) (to_z-of_z c.ranges.c)))
+    let n = bits16 c.args.c in
+    let e : n / 256 % 256 ≡ n / 256 = omega (arith, (of_z_fits w16 c.args.c c.ranges.c).fits) in
+    rw (c.to_le_bytes.ensures, to_z-of_z c.ranges.c, add-one, e)

@@ -1,16 +1,11 @@
 -- `ground::write::put_sizes` meets its contract.
 use mathlib.Core.Path.{sym, ◌∙◌}
 use Prim.Native.Nat.{◌+◌, ◌*◌}
-use native.Mathlib.Nat.{add-zero}
 use Rattle.ground.proofs.Littles.{fours-on, fours-done}
-use borrow.Author.Rules.{rules}
 use Rattle.ground.proofs.write.put_sizes.Goals as goal
 
-pub loop-i-init : goal.loop-i-init
-loop-i-init c = (search rules, search rules, rw add-zero)
-
 pub loop-i-preserved : goal.loop-i-preserved
-loop-i-preserved c = let l = c.loop-i in let a = c.args in (search rules, search rules, fours-on l.s _ a.at l.i a.ns.now c.loop-i-test.true c.put_size.ensures ∙ l.invariant.2)
+loop-i-preserved c = let l = c.loop-i in let a = c.args in fours-on l.s _ a.at l.i a.ns.now c.loop-i-test.true c.put_size.ensures ∙ l.invariant
 
 pub returns : goal.returns
-returns c = let l = c.loop-i in let a = c.args in sym (fours-done l.s (a.at + 4 * l.i) l.i a.ns.now c.loop-i-test.false l.invariant.0) ∙ l.invariant.2
+returns c = let l = c.loop-i in let a = c.args in sym (fours-done l.s (a.at + 4 * l.i) l.i a.ns.now c.loop-i-test.false l.auto.i-end) ∙ l.invariant

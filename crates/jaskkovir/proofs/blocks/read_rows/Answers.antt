@@ -1,23 +1,24 @@
 -- `jaskkovir::blocks::read_rows` meets its contract.
-use mathlib.Core.Path.{refl, ap, ◌∙◌}
-use native.Mathlib.Omega.{arith}
-use borrow.Author.Rules.{rules}
-use Rattle.rows.specs.splats.Splat.{row_read}
+use Rattle.std.proofs.Common.{◌≡◌, ◌+◌, ◌-◌, ap, ◌∙◌, arith}
+use Rattle.rows.specs.splats.Splat.{row_read, rows_read}
 use Rattle.rows.proofs.splats.Splats.{read-on, read-stops, read_done}
 use Rattle.layout.specs.TileBytes.{tile_at}
 use Rattle.jaskkovir.proofs.blocks.read_rows.Goals as goal
 
-pub loop-left-init : goal.loop-left-init
-loop-left-init c = (refl, refl)
-
 pub returns-then-a-ne0 : goal.returns-then-a-ne0
-returns-then-a-ne0 c = read-stops (tile_at c.args.tile.now).rows _ _ _ _ c.loop-left-test.true (c.read_row-a.ensures ∙ ap (row_read _ _) c.entry_in.ensures) c.if-a-ne0.true ∙ c.loop-left.invariant.1
+returns-then-a-ne0 c =
+    read-stops (tile_at c.args.tile.now).rows _ _ _ _ (omega (arith, c.loop-e-test.true)) (c.read_row-a.ensures ∙ ap (row_read _ _) c.entry_in.ensures) c.if-a-ne0.true
+    ∙ c.loop-e.invariant
 
-pub overflow_add-e : goal.overflow_add-e
-overflow_add-e c = let i = c.loop-left.invariant.0 in search rules
-
-pub loop-left-preserved : goal.loop-left-preserved
-loop-left-preserved c = (omega arith, read-on (tile_at c.args.tile.now).rows _ _ _ _ c.loop-left-test.true (c.read_row-a.ensures ∙ ap (row_read _ _) c.entry_in.ensures) c.if-a-ne0.false ∙ c.loop-left.invariant.1)
+pub loop-e-preserved : goal.loop-e-preserved
+loop-e-preserved c =
+    let a = c.args in
+    let e = c.loop-e.e in
+    let s : a.first + a.n - (e + 1) ≡ a.first + a.n - e - 1 = omega arith in
+    let rows = (tile_at a.tile.now).rows in
+    ap (rows_read rows a.total a.reach (e + 1)) s
+    ∙ read-on rows _ _ e (a.first + a.n - e) (omega (arith, c.loop-e-test.true)) (c.read_row-a.ensures ∙ ap (row_read _ _) c.entry_in.ensures) c.if-a-ne0.false
+    ∙ c.loop-e.invariant
 
 pub returns : goal.returns
-returns c = read_done _ _ _ _ _ c.loop-left-test.false ∙ c.loop-left.invariant.1
+returns c = read_done _ _ _ _ _ (omega (arith, c.loop-e-test.false)) ∙ c.loop-e.invariant

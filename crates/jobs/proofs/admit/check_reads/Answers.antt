@@ -3,7 +3,7 @@ use mathlib.Core.Path.{refl, ap, ◌∙◌}
 use native.Mathlib.Omega.{arith}
 use Rattle.ground.specs.Span.{first_of}
 use Rattle.ground.proofs.Spans.{asked, ask-on, ask-stops}
-use Rattle.motion.specs.loading.Fields.{three, cells_in}
+use Rattle.jobs.specs.Inputs.{used_sources}
 use Rattle.jobs.specs.work.Work.{admit_read}
 use Rattle.jobs.specs.Admit.{job_reads}
 use Rattle.jobs.proofs.admit.check_reads.Goals as goal
@@ -21,7 +21,7 @@ pub returns-then-answer-ne0 : goal.returns-then-answer-ne0
 unfolding job_reads
 returns-then-answer-ne0 c =
     let s = c in
-    ask-stops _ _ _ c.loop-k-test.true c.check_work-answer.ensures c.if-answer-ne0.true ∙ c.loop-k.invariant ∙ ap (first_of (admit_read s.args.f (cells_in (three s.args.first.now s.args.second.now s.args.third.now) s.args.f) s.args.recs.now s.args.job) 0) c.count_of-n.ensures
+    ask-stops _ _ _ c.loop-k-test.true c.check_work-answer.ensures c.if-answer-ne0.true ∙ c.loop-k.invariant ∙ ap (first_of (admit_read s.args.inputs.now.frame (used_sources s.args.inputs.now) s.args.inputs.now.recs.now s.args.job) 0) c.count_of-n.ensures
 
 pub loop-k-preserved : goal.loop-k-preserved
 loop-k-preserved c = ask-on _ _ _ c.loop-k-test.true c.check_work-answer.ensures c.if-answer-ne0.false ∙ c.loop-k.invariant
@@ -30,4 +30,4 @@ pub returns : goal.returns
 unfolding job_reads
 returns c =
     let s = c in
-    asked _ _ _ c.loop-k-test.false ∙ c.loop-k.invariant ∙ ap (first_of (admit_read s.args.f (cells_in (three s.args.first.now s.args.second.now s.args.third.now) s.args.f) s.args.recs.now s.args.job) 0) c.count_of-n.ensures
+    asked _ _ _ c.loop-k-test.false ∙ c.loop-k.invariant ∙ ap (first_of (admit_read s.args.inputs.now.frame (used_sources s.args.inputs.now) s.args.inputs.now.recs.now s.args.job) 0) c.count_of-n.ensures

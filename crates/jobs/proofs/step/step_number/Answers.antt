@@ -1,8 +1,7 @@
 -- `jobs::step::step_number` meets its contract.
 use mathlib.Core.Path.{sym, ◌∙◌}
-use Rattle.motion.specs.loading.Fields.{three}
 use Rattle.jobs.proofs.job.Fronts.{front}
-use Rattle.jobs.specs.Admit.{handed}
+use Rattle.jobs.specs.Inputs.{handed_with}
 use Rattle.jobs.proofs.Admits.{front-told}
 use Rattle.jobs.proofs.Steps.{ill-kind, front-stops, is-done, row-answers, to_read}
 use Rattle.jobs.proofs.step.step_number.Goals as goal
@@ -13,8 +12,8 @@ returns-then-not-well_kind c = ill-kind _ _ (sym c.well_kind.ensures ∙ c.if-no
 pub returns-then-front-ne0 : goal.returns-then-front-ne0
 returns-then-front-ne0 c =
     let s = c.args in
-    let h = handed s.f s.lent (three s.first.now s.second.now s.third.now) s.recs.now s.proj s.saved in
-    front-stops h s.job (sym c.well_kind.ensures ∙ c.if-not-well_kind.false) (front-told h s.job c.lengths_of-n.ensures c.job_front-front.ensures) c.if-front-ne0.true
+    let h = handed_with s.inputs.now s.proj s.saved in
+    front-stops h s.job (sym c.well_kind.ensures ∙ c.if-not-well_kind.false) (front-told h s.job c.lengths.ensures c.job_front-front.ensures) c.if-front-ne0.true
 
 pub count_of-requires : goal.count_of-requires
 count_of-requires c = let p = front _ _ _ _ (sym c.job_front-front.ensures ∙ c.if-front-ne0.false) in (p.frame, p.area)
@@ -22,17 +21,17 @@ count_of-requires c = let p = front _ _ _ _ (sym c.job_front-front.ensures ∙ c
 pub returns-then-job-count_of : goal.returns-then-job-count_of
 returns-then-job-count_of c =
     let s = c.args in
-    let h = handed s.f s.lent (three s.first.now s.second.now s.third.now) s.recs.now s.proj s.saved in
-    is-done h s.job (sym c.well_kind.ensures ∙ c.if-not-well_kind.false) (front-told h s.job c.lengths_of-n.ensures c.job_front-front.ensures) c.if-front-ne0.false c.count_of.ensures c.if-job-count_of.true
+    let h = handed_with s.inputs.now s.proj s.saved in
+    is-done h s.job (sym c.well_kind.ensures ∙ c.if-not-well_kind.false) (front-told h s.job c.lengths.ensures c.job_front-front.ensures) c.if-front-ne0.false c.count_of.ensures c.if-job-count_of.true
 
 pub check_work-requires : goal.check_work-requires
 check_work-requires c =
     let s = c.args in
-    let h = handed s.f s.lent (three s.first.now s.second.now s.third.now) s.recs.now s.proj s.saved in
-    let it = to_read h s.job (front-told h s.job c.lengths_of-n.ensures c.job_front-front.ensures) c.if-front-ne0.false c.count_of.ensures c.if-job-count_of.false in record { able = it.0; k_bound = it.1 }
+    let h = handed_with s.inputs.now s.proj s.saved in
+    let it = to_read h s.job (front-told h s.job c.lengths.ensures c.job_front-front.ensures) c.if-front-ne0.false c.count_of.ensures c.if-job-count_of.false in record { able = it.0; k_bound = it.1 }
 
 pub returns : goal.returns
 returns c =
     let s = c.args in
-    let h = handed s.f s.lent (three s.first.now s.second.now s.third.now) s.recs.now s.proj s.saved in
-    row-answers h s.job (sym c.well_kind.ensures ∙ c.if-not-well_kind.false) (front-told h s.job c.lengths_of-n.ensures c.job_front-front.ensures) c.if-front-ne0.false c.count_of.ensures c.if-job-count_of.false c.check_work.ensures
+    let h = handed_with s.inputs.now s.proj s.saved in
+    row-answers h s.job (sym c.well_kind.ensures ∙ c.if-not-well_kind.false) (front-told h s.job c.lengths.ensures c.job_front-front.ensures) c.if-front-ne0.false c.count_of.ensures c.if-job-count_of.false c.check_work.ensures

@@ -5,10 +5,10 @@ use Rattle.ground.proofs.Bits.{same}
 use borrow.Author.Rules.{rules}
 use Rattle.layout.proofs.frame_bytes.cur_number.Goals as goal
 
-pub returns-in-Skipped : goal.returns-in-Skipped
+pub returns-in-None : goal.returns-in-None
 unfolding cur_number
-returns-in-Skipped c = rw c.in-Skipped.is
+returns-in-None c = rw c.in-None.is
 
-pub returns-in-At : goal.returns-in-At
+pub returns-in-Some : goal.returns-in-Some
 unfolding cur_number
-returns-in-At c = rw c.in-At.is (same w16 c.in-At.z (search rules))
+returns-in-Some c = rw c.in-Some.is (same w16 c.in-Some.z (search rules))

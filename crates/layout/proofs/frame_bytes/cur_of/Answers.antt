@@ -11,6 +11,6 @@ pub returns-then-z-eq-SKIPPED : goal.returns-then-z-eq-SKIPPED
 unfolding cur_of
 returns-then-z-eq-SKIPPED c = let e = bits-eq_z {w = w16} {a = c.args.z} {b = skipped_mark} c.ranges.z (search rules) in rw (← e, eq-eqb _ _ c.if-z-eq-SKIPPED.true)
 
-pub returns : goal.returns
+pub returns-else-z-eq-SKIPPED : goal.returns-else-z-eq-SKIPPED
 unfolding cur_of
-returns c = let e = bits-eq_z {w = w16} {a = c.args.z} {b = skipped_mark} c.ranges.z (search rules) in rw (← e, ne_eqb _ _ c.if-z-eq-SKIPPED.false, to_z-of_z c.ranges.z)
+returns-else-z-eq-SKIPPED c = let e = bits-eq_z {w = w16} {a = c.args.z} {b = skipped_mark} c.ranges.z (search rules) in rw (← e, ne_eqb _ _ c.if-z-eq-SKIPPED.false, to_z-of_z c.ranges.z)

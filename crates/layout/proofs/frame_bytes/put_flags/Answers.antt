@@ -1,6 +1,8 @@
 -- `layout::frame_bytes::put_flags` meets its contract.
 use native.Mathlib.Omega.{arith}
 use lib.ListN.{length-set}
+use mathlib.Core.Path.{◌∙◌}
+use Rattle.frame.proofs.hints.Flags.{flag-is}
 use Rattle.ground.specs.Put.{put}
 use Rattle.layout.proofs.frame_bytes.put_flags.Goals as goal
 
@@ -12,4 +14,4 @@ bounds-s-50 c = simp length-set (omega arith)
 
 pub returns : goal.returns
 unfolding put
-returns c = rw c.flag.ensures
+returns c = rw (c.from.ensures ∙ flag-is _)

@@ -2,10 +2,10 @@
 use Rattle.layout.specs.TileBytes.{place_number}
 use Rattle.layout.proofs.tile_bytes.number_of.Goals as goal
 
-pub returns-in-Absent : goal.returns-in-Absent
+pub returns-in-None : goal.returns-in-None
 unfolding place_number
-returns-in-Absent c = rw c.in-Absent.is
+returns-in-None c = rw c.in-None.is
 
-pub returns-in-At : goal.returns-in-At
+pub returns-in-Some : goal.returns-in-Some
 unfolding place_number
-returns-in-At c = rw c.in-At.is
+returns-in-Some c = rw c.in-Some.is

@@ -7,6 +7,6 @@ pub returns-then-n-eq-ABSENT : goal.returns-then-n-eq-ABSENT
 unfolding place_of
 returns-then-n-eq-ABSENT c = rw (eq-eqb _ _ c.if-n-eq-ABSENT.true)
 
-pub returns : goal.returns
+pub returns-else-n-eq-ABSENT : goal.returns-else-n-eq-ABSENT
 unfolding place_of
-returns c = rw (ne_eqb _ _ c.if-n-eq-ABSENT.false)
+returns-else-n-eq-ABSENT c = rw (ne_eqb _ _ c.if-n-eq-ABSENT.false)

@@ -2,7 +2,7 @@
 use native.Mathlib.Omega.{arith}
 use Rattle.frame.proofs.extent.Sizing.{fits, blocks-most}
 use Rattle.rows.specs.Setup.{pass_start}
-use borrow.Author.Tests.{eq-eqb, ne_eqb, le-ltb, lt-ltb}
+use Rattle.std.proofs.Common.{rules}
 use Rattle.rows.proofs.setup.pass_start.Goals as goal
 
 pub overflow_mul-result : goal.overflow_mul-result
@@ -10,12 +10,8 @@ overflow_mul-result c = let f = fits _ c.requires in let h = blocks-most _ _ c.a
 
 pub returns-then-pass-eq2 : goal.returns-then-pass-eq2
 unfolding pass_start
-returns-then-pass-eq2 c = rw (lt-ltb _ _ c.if-s-gt1.true, eq-eqb _ _ c.if-pass-eq2.true)
-
-pub returns-else-pass-eq2 : goal.returns-else-pass-eq2
-unfolding pass_start
-returns-else-pass-eq2 c = rw (lt-ltb _ _ c.if-s-gt1.true, ne_eqb _ _ c.if-pass-eq2.false)
+returns-then-pass-eq2 c = search rules
 
 pub returns-else-s-gt1 : goal.returns-else-s-gt1
 unfolding pass_start
-returns-else-s-gt1 c = rw (le-ltb _ _ c.if-s-gt1.false)
+returns-else-s-gt1 c = search rules

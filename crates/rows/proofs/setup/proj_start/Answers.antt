@@ -10,6 +10,3 @@ overflow_mul-result c = let s = c in let e = ap (λ x. x * s.args.s.stride.0) c.
 
 pub overflow_mul-result-2 : goal.overflow_mul-result-2
 overflow_mul-result-2 c = let s = c in let e = ap (λ x. x * s.args.s.stride.0) c.part.ensures in record { fits = omega (arith, part_small s.args.s s.args.tile s.requires.0 s.requires.1) }
-
-pub returns : goal.returns
-returns c = rw c.part.ensures

@@ -1,32 +1,32 @@
 -- `rows::table::partner` meets its contract.
-use borrow.Author.Tests.{eq-eqb, ne_eqb}
-use Rattle.rows.specs.Table.{partner}
+use Rattle.rows.specs.Table as tables
+use Rattle.std.proofs.Common.{rules}
 use Rattle.rows.proofs.table.partner.Goals as goal
 
-pub returns-then-e-eq0 : goal.returns-then-e-eq0
-unfolding partner
-returns-then-e-eq0 c = rw (eq-eqb _ _ c.if-e-eq0.true)
+pub returns-in-0 : goal.returns-in-0
+unfolding tables.partner
+returns-in-0 c = search rules
 
-pub returns-then-e-eq2 : goal.returns-then-e-eq2
-unfolding partner
-returns-then-e-eq2 c = rw (ne_eqb _ _ c.if-e-eq0.false, eq-eqb _ _ c.if-e-eq2.true)
+pub returns-in-2 : goal.returns-in-2
+unfolding tables.partner
+returns-in-2 c = search rules
 
-pub returns-then-e-eq4 : goal.returns-then-e-eq4
-unfolding partner
-returns-then-e-eq4 c = rw (ne_eqb _ _ c.if-e-eq0.false, ne_eqb _ _ c.if-e-eq2.false, eq-eqb _ _ c.if-e-eq4.true)
+pub returns-in-4 : goal.returns-in-4
+unfolding tables.partner
+returns-in-4 c = search rules
 
-pub returns-then-e-sbsz : goal.returns-then-e-sbsz
-unfolding partner
-returns-then-e-sbsz c = rw (ne_eqb _ _ c.if-e-eq0.false, ne_eqb _ _ c.if-e-eq2.false, ne_eqb _ _ c.if-e-eq4.false, eq-eqb _ _ c.if-e-sbsz.true)
+pub returns-in_default : goal.returns-in_default
+unfolding tables.partner
+returns-in_default c = search rules
 
-pub returns-then-e-sbsz-2 : goal.returns-then-e-sbsz-2
-unfolding partner
-returns-then-e-sbsz-2 c = rw (ne_eqb _ _ c.if-e-eq0.false, ne_eqb _ _ c.if-e-eq2.false, ne_eqb _ _ c.if-e-eq4.false, ne_eqb _ _ c.if-e-sbsz.false, eq-eqb _ _ c.if-e-sbsz-2.true)
+pub returns-in_default-2 : goal.returns-in_default-2
+unfolding tables.partner
+returns-in_default-2 c = search rules
 
-pub returns-then-e-sbsz-3 : goal.returns-then-e-sbsz-3
-unfolding partner
-returns-then-e-sbsz-3 c = rw (ne_eqb _ _ c.if-e-eq0.false, ne_eqb _ _ c.if-e-eq2.false, ne_eqb _ _ c.if-e-eq4.false, ne_eqb _ _ c.if-e-sbsz.false, ne_eqb _ _ c.if-e-sbsz-2.false, eq-eqb _ _ c.if-e-sbsz-3.true)
+pub returns-in_default-3 : goal.returns-in_default-3
+unfolding tables.partner
+returns-in_default-3 c = search rules
 
-pub returns-else-e-sbsz-3 : goal.returns-else-e-sbsz-3
-unfolding partner
-returns-else-e-sbsz-3 c = rw (ne_eqb _ _ c.if-e-eq0.false, ne_eqb _ _ c.if-e-eq2.false, ne_eqb _ _ c.if-e-eq4.false, ne_eqb _ _ c.if-e-sbsz.false, ne_eqb _ _ c.if-e-sbsz-2.false, ne_eqb _ _ c.if-e-sbsz-3.false)
+pub returns-in_default-4 : goal.returns-in_default-4
+unfolding tables.partner
+returns-in_default-4 c = search rules

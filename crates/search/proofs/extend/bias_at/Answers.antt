@@ -7,4 +7,4 @@ use Rattle.search.proofs.extend.bias_at.Goals as goal
 
 pub returns : goal.returns
 unfolding bias_at frame_at
-returns c = ap (λ (h : RefHint). h.sign_bias) c.hint_in-hint.ensures
+returns c = ap (λ (h : RefHint). h.sign_bias) c.hint_in.ensures

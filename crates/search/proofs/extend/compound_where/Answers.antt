@@ -3,7 +3,7 @@ use mathlib.Core.Path.{◌∙◌}
 use borrow.Author.Tests.{eq-eqb}
 use Rattle.search.specs.Code.Walk.{pooled}
 use Rattle.search.specs.Extend.{compound_where}
-use Rattle.search.proofs.Extends.{near-lent, compound-is}
+use Rattle.search.proofs.Extends.{near-walked, compound-is}
 use Rattle.search.proofs.extend.compound_where.Goals as goal
 
 pub returns-then-depth-eq0 : goal.returns-then-depth-eq0
@@ -13,7 +13,7 @@ returns-then-depth-eq0 c = rw (← c.depth.ensures, eq-eqb _ _ c.if-depth-eq0.tr
 pub compound_along-requires : goal.compound_along-requires
 compound_along-requires c =
     let f = c in
-    (near-lent f.args.down f.args.b f.requires.0 f.requires.1 c.near_line.ensures c.extra_limit-limit.ensures.1, f.requires.2, f.requires.3, f.requires.4)
+    near-walked f.args.down f.args.b f.requires c.near_line.ensures c.extra_limit-limit.ensures.1
 
 pub returns : goal.returns
 returns c =

@@ -7,4 +7,4 @@ use Rattle.search.proofs.extend.extra_limit.Goals as goal
 
 pub returns : goal.returns
 unfolding extra_limit
-returns c = (rw (c.least.ensures, c.limit-2.ensures, c.limit.ensures), omega (arith, c.least.ensures, c.limit.ensures, limit-most false c.args.b))
+returns c = (rw (c.min.ensures, c.limit-2.ensures, c.limit.ensures), omega (arith, c.min.ensures, c.limit.ensures, limit-most false c.args.b))

@@ -3,21 +3,21 @@ use mathlib.Core.Path.{◌∙◌}
 use borrow.Author.Tests.{eq-eqb}
 use Rattle.stack.specs.Code.Found.{outcome}
 use Rattle.search.specs.Extend.{single_where}
-use Rattle.search.proofs.Extends.{near-lent, single-is}
+use Rattle.search.proofs.Extends.{near-walked, single-is}
 use Rattle.search.proofs.extend.single_where.Goals as goal
 
-pub returns-then-depth-eq0 : goal.returns-then-depth-eq0
+pub returns-then-depth-eq0-clause-s_after : goal.returns-then-depth-eq0-clause-s_after
 unfolding single_where outcome
-returns-then-depth-eq0 c = let p = c.requires in record { held = (p.4, p.5); s_after = rw (← c.depth.ensures, eq-eqb _ _ c.if-depth-eq0.true) }
+returns-then-depth-eq0-clause-s_after c = let p = c.requires in rw (← c.depth.ensures, eq-eqb _ _ c.if-depth-eq0.true)
 
 pub single_along-requires : goal.single_along-requires
 single_along-requires c =
     let f = c in
     let p = f.requires in
-    (near-lent f.args.down f.args.b p.0 p.1 c.near_line.ensures c.extra_limit-limit.ensures.1, p.2, p.3, p.4, p.5)
+    (near-walked f.args.down f.args.b p.0 c.near_line.ensures c.extra_limit-limit.ensures.1, p.1, p.2)
 
-pub returns : goal.returns
-returns c =
+pub returns-clause-s_after : goal.returns-clause-s_after
+returns-clause-s_after c =
     let a = c.args in
     let r = c.single_along.ensures in
-    record { held = r.held; s_after = single-is _ a.b a.down _ c.near_line.ensures c.extra_limit-limit.ensures.0 (λ z. c.if-depth-eq0.false (c.depth.ensures ∙ z)) _ _ r.s_after }
+    single-is _ a.b a.down _ c.near_line.ensures c.extra_limit-limit.ensures.0 (λ z. c.if-depth-eq0.false (c.depth.ensures ∙ z)) _ _ r.s_after

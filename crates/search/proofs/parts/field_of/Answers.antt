@@ -23,4 +23,5 @@ overflow_add-result-2 c =
 
 pub returns : goal.returns
 unfolding field_of
-returns c = rw (c.proj_in.ensures, c.halved.ensures, c.halved-2.ensures, c.projected_cells.ensures)
+returns c =
+    (rw (c.proj_in.ensures, c.halved.ensures, c.halved-2.ensures, c.projected_cells.ensures), proj-fits c.args.tile.now (λ i. (c.type_inv.tile i).fits))

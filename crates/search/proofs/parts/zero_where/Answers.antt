@@ -3,9 +3,6 @@ use Rattle.search.specs.Parts.{zero_where}
 use Rattle.search.proofs.Temporals.{zero-most}
 use Rattle.search.proofs.parts.zero_where.Goals as goal
 
-pub zero_context-requires : goal.zero_context-requires
-zero_context-requires c = let p = c.requires.0 in let n = p.near c.if-on.true in (n.cells, n.first, n.second, p.global)
-
 pub returns-then-on : goal.returns-then-on
 unfolding zero_where
 returns-then-on c = (rw c.if-on.true c.zero_context.ensures, rw c.zero_context.ensures (zero-most _ _ _ c.requires.1))

@@ -5,7 +5,7 @@ use Rattle.spatial.proofs.scan.next_at.Goals as goal
 
 pub returns-then-n-p : goal.returns-then-n-p
 unfolding next_of
-returns-then-n-p c = rw (← c.neighbour_at.ensures, c.in-Of.is, ← c.along-n.ensures, lt-ltb _ _ c.if-n-p.true, ← c.most.ensures)
+returns-then-n-p c = rw (← c.neighbour_at.ensures, c.in-Of.is, ← c.along-n.ensures, lt-ltb _ _ c.if-n-p.true, ← c.max.ensures)
 
 pub returns-in-Refused : goal.returns-in-Refused
 unfolding next_of

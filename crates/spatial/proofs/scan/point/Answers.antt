@@ -1,5 +1,4 @@
 -- `spatial::scan::point` meets its contract.
-use native.Mathlib.Omega.{arith}
 use Rattle.stack.specs.Code.Numbers.{found_at}
 use Rattle.layout.specs.TileBytes.{tile_at}
 use Rattle.spatial.proofs.neighbours.Known.{told, is_some}
@@ -8,18 +7,18 @@ use Rattle.spatial.specs.Scan.{point_of}
 use Rattle.spatial.proofs.Scans.{not_found}
 use Rattle.spatial.proofs.scan.point.Goals as goal
 
-pub returns-in-Refused : goal.returns-in-Refused
+pub returns-in-Refused-clause-s_after : goal.returns-in-Refused-clause-s_after
 unfolding point_of
-returns-in-Refused c =
+returns-in-Refused-clause-s_after c =
     let f = c in
     let a = f.args in
     let e = c.read_at.ensures in
     let n = c.in-Refused.is in
-    let s = is_some (told (tile_at a.tile.now).rows a.recs.now a.total a.e a.col.0) e n in
-    record { held = (f.requires.2, omega arith); s_after = rw (← e, n) (not_found _ (found_at a.s.now) s) }
+    let s = is_some (told (tile_at a.records.tile.now).rows a.records.recs.now a.records.total a.e a.col.0) e n in
+    rw (← e, n) (not_found _ (found_at a.s.now) s)
 
-pub returns-in-Of : goal.returns-in-Of
+pub returns-in-Of-clause-s_after : goal.returns-in-Of-clause-s_after
 unfolding point_of scanned
-returns-in-Of c =
+returns-in-Of-clause-s_after c =
     let t = c.add_spatial.ensures in
-    record { held = (t.0, t.2); s_after = rw (← c.read_at.ensures, c.in-Of.is, t.1) }
+    rw (← c.read_at.ensures, c.in-Of.is, t.1)

@@ -1,7 +1,6 @@
 -- `spatial::scan::scan_on` meets its contract.
 use mathlib.Core.Path.{refl, sym, ◌∙◌}
 use native.Mathlib.Omega.{arith}
-use lib.Dec.{lit≤}
 use Rattle.stack.specs.Code.Numbers.{found_at}
 use Rattle.layout.specs.TileBytes.{tile_at}
 use Rattle.spatial.proofs.neighbours.Known.{told_line}
@@ -13,19 +12,16 @@ pub loop-x-init : goal.loop-x-init
 loop-x-init c =
     let s = c in
     let a = s.args in
-    (s.requires.1, omega arith, s.requires.4, starts (told_line (tile_at a.tile.now).rows a.recs.now a.total a.l) refl)
+    (s.requires.1, omega arith, s.requires.4, starts (told_line (tile_at a.records.tile.now).rows a.records.recs.now a.records.total a.l) refl)
 
-pub shape_of-s-in-Refused : goal.shape_of-s-in-Refused
-shape_of-s-in-Refused c = c.loop-x.invariant.0.size ∙ sym c.requires.1.size
-
-pub returns-in-Refused : goal.returns-in-Refused
-returns-in-Refused c =
+pub returns-in-Refused-clause-s_after : goal.returns-in-Refused-clause-s_after
+returns-in-Refused-clause-s_after c =
     let m = c in
     let l = m in
     let i = l.loop-x.invariant in
     let f = l.requires.2 in
     let e = m.next_at.ensures in
-    let g = c.in-Refused.is in record { held = (i.0, omega (arith, i.1, i.2), lit≤ tt); s_after = not_found _ (found_at l.loop-x.s) (some-refusal i.3 f e g) ∙ sym (refuses i.3 f e m.loop-x-test.true g) }
+    let g = c.in-Refused.is in not_found _ (found_at l.loop-x.s) (some-refusal i.3 f e g) ∙ sym (refuses i.3 f e m.loop-x-test.true g)
 
 pub overflow_mul-len : goal.overflow_mul-len
 overflow_mul-len c =
@@ -64,11 +60,8 @@ loop-x-preserved c =
     let t = c.add_spatial.ensures in
     (t.0, omega (arith, t.2, i.1), omega (arith, len-fits i.3 f e g), rw t.1 (goes i.3 f e m.loop-x-test.true g))
 
-pub shape_of-s : goal.shape_of-s
-shape_of-s c = c.loop-x.invariant.0.size ∙ sym c.requires.1.size
-
-pub returns : goal.returns
+pub returns-clause-s_after : goal.returns-clause-s_after
 unfolding scanned
-returns c =
+returns-clause-s_after c =
     let i = c.loop-x.invariant in
-    record { held = (i.0, omega (arith, i.1, i.2), lit≤ tt); s_after = sym (ends i.3 c.loop-x-test.false) }
+    sym (ends i.3 c.loop-x-test.false)

@@ -6,21 +6,18 @@ use Rattle.spatial.proofs.Notes.{notes, none, some}
 use borrow.Author.Rules.{rules}
 use Rattle.spatial.proofs.take.add_spatial.Goals as goal
 
-pub returns-in-Nothing : goal.returns-in-Nothing
-returns-in-Nothing c =
-    let s = c in
-    let a = s.args in
-    (s.requires.0, none a.down a.w a.k a.q (view_at a.s.now) c.offered.ensures c.in-Nothing.is, omega arith)
+pub returns-in_default : goal.returns-in_default
+returns-in_default c =
+    let a = c.args in
+    (c.requires.0, none a.down a.w a.k a.q (view_at a.s.now) c.offered.ensures c.in_default.is, omega arith)
 
-pub returns-in-Pair : goal.returns-in-Pair
-returns-in-Pair c =
+pub returns-in-Some : goal.returns-in-Some
+returns-in-Some c =
     let side = c.note_side in
-    let m = c in
-    let t = m.add in
-    let o = m in
-    let a = o.args in
-    let n = notes a.down a.k.mf t.new.s m.note_mode.new.s side.new.s t.ensures.0 m.note_mode.ensures side.ensures (search rules) in (
+    let t = c.add in
+    let a = c.args in
+    let n = notes a.down a.k.mf t.new.s c.note_mode.new.s side.new.s t.ensures.0 c.note_mode.ensures side.ensures (search rules) in (
       n.0,
-      n.1 ∙ rw t.ensures.1 (some a.down a.w a.k a.q (view_at a.s.now) o.offered.ensures m.in-Pair.is),
+      n.1 ∙ rw t.ensures.1 (some a.down a.w a.k a.q (view_at a.s.now) c.offered.ensures c.in-Some.is),
       omega (arith, n.2, t.ensures.2),
     )

@@ -1,11 +1,7 @@
 -- `stack::add::lay` meets its contract.
-use native.Mathlib.Omega.{arith}
-use lib.ListN.{length-set}
-use Rattle.stack.proofs.Adds.{lies}
+use Rattle.std.proofs.Common.{arith}
+use Rattle.stack.proofs.Adds.{counts}
 use Rattle.stack.proofs.add.lay.Goals as goal
 
-pub bounds-s-n-2 : goal.bounds-s-n-2
-bounds-s-n-2 c = rw length-set (omega (arith, c.requires.0.size))
-
 pub returns : goal.returns
-returns c = lies c.args.s.now c.requires.0 c.args.n c.args.k c.args.w c.requires.1 c.requires.2
+returns c = counts c.args.s.now c.requires.0 _ c.put_candidate.new.s c.count_in-n.result c.count_in-n.ensures (omega arith) c.put_candidate.ensures.0 c.put_candidate.ensures.1

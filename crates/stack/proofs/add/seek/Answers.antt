@@ -1,43 +1,14 @@
 -- `stack::add::seek` meets its contract.
-use mathlib.Core.Path.{sym, ◌∙◌}
-use Prim.Native.Nat.{◌<◌}
-use native.Mathlib.Nat.{zero-add}
-use native.Mathlib.Omega.{arith}
-use borrow.Author.Rules.{rules}
-use Rattle.stack.specs.Code.Numbers.{pair_in, found_at}
-use Rattle.stack.proofs.Adds.{stops, goes_on, at-end}
+use Rattle.std.proofs.Common.{rules, tests, ◌≡◌, ◌∙◌, take, eqb}
+use Rattle.std.proofs.lemmas.Iterator.Search.{position_from_yields_List}
+use Rattle.std.proofs.lemmas.Iterator.{YieldsList-from_slice}
+use Rattle.std.specs.List.{position}
+use Rattle.stack.specs.Code.Numbers.{count_at}
+use Rattle.stack.proofs.Adds.{position-is}
 use Rattle.stack.proofs.add.seek.Goals as goal
-
-pub loop-i-init : goal.loop-i-init
-loop-i-init c = (search rules, sym (zero-add _))
-
-pub offset_bounds-s-i : goal.offset_bounds-s-i
-offset_bounds-s-i c = record { fits = omega (arith, c.count_in-n.ensures, c.requires.room) }
-
-pub bounds-s-i : goal.bounds-s-i
-bounds-s-i c =
-    let l = c in
-    let p = l.requires in
-    omega (arith, l.count_in-n.ensures, p.room, p.size)
-
-pub returns-then-s-i : goal.returns-then-s-i
-returns-then-s-i c =
-    let l = c in
-    let s = l in
-    let b = c.type_inv.s in
-    let n : l.loop-i.i < (found_at s.args.s.now).count = omega (arith, l.count_in-n.ensures) in
-    stops s.args.s.now s.requires s.args.k (λ i. (b i).fits) s.ranges.k.fits l.loop-i.i n l.loop-i.invariant.1 c.if-s-i.true
-
-pub loop-i-preserved : goal.loop-i-preserved
-loop-i-preserved c =
-    let l = c in
-    let s = l in
-    let b = c.type_inv.s in
-    let n : l.loop-i.i < (found_at s.args.s.now).count = omega (arith, l.count_in-n.ensures) in
-    (search rules, goes_on s.args.s.now s.requires s.args.k (λ i. (b i).fits) s.ranges.k.fits l.loop-i.i n l.loop-i.invariant.1 c.if-s-i.false)
 
 pub returns : goal.returns
 returns c =
-    let n = c.count_in-n.ensures in
-    let s = c in
-    n ∙ at-end s.args.s.now s.requires (pair_in s.args.k) c.loop-i.i (omega (arith, n)) c.loop-i.invariant.1
+    let found : c.position.result ≡ position (λ x. eqb x c.args.k) (take (count_at c.args.s.now) c.args.s.now) =
+    position_from_yields_List (λ x. eqb x c.args.k) _ _ c.position.result c.position.ensures.ran (YieldsList-from_slice _ (search rules)) (λ x b q k. search (rules, tests)) in
+    found ∙ position-is c.args.s.now c.requires c.args.k (λ i. (c.type_inv.s i).fits) c.ranges.k.fits

@@ -1,31 +1,22 @@
 -- `temporal::aim::pair_of` meets its contract.
-use mathlib.Core.Path.{ap}
-use lib.IntN.{nat_abs}
-use Rattle.temporal.proofs.Aims.{aimed, paired, held_small, taken-towards}
-use native.Mathlib.Omega.{arith}
+use Rattle.std.proofs.Common.{◌≡◌, ap, arith, rules, nat_abs}
 use Rattle.cells.proofs.Cells.{projected-moves}
+use Rattle.temporal.proofs.Aims.{paired, held_small, taken-towards}
 use Rattle.temporal.proofs.aim.pair_of.Goals as goal
-
-pub distance_of-den-requires : goal.distance_of-den-requires
-distance_of-den-requires c = aimed _ c.requires.0 c.requires.1
 
 pub take_towards-first-requires : goal.take_towards-first-requires
 take_towards-first-requires c =
-    let s = c in
-    let m = projected-moves _ s.requires.0 s.requires.1 in
-    let d = c.distance_of-den.ensures in
-    (m.near, held_small s.args.a.first s.requires.2, omega (arith, d, ap nat_abs m.is), omega (arith, d, ap nat_abs m.is))
+    let m = projected-moves _ c.requires.0 c.requires.1 in
+    let d : c.from-den.result ≡ nat_abs c.args.c.reference.0 = search rules in
+    (m.near, held_small c.args.a.first c.requires.2, omega (arith, d, ap nat_abs m.is), omega (arith, d, ap nat_abs m.is))
 
 pub second_of-second-requires : goal.second_of-second-requires
 second_of-second-requires c =
-    let s = c in
-    let m = projected-moves _ s.requires.0 s.requires.1 in
-    let d = c.distance_of-den.ensures in
-    (m.near, s.requires.3, omega (arith, d, ap nat_abs m.is), omega (arith, d, ap nat_abs m.is))
+    let m = projected-moves _ c.requires.0 c.requires.1 in
+    let d : c.from-den.result ≡ nat_abs c.args.c.reference.0 = search rules in
+    (m.near, c.requires.3, omega (arith, d, ap nat_abs m.is), omega (arith, d, ap nat_abs m.is))
 
 pub returns : goal.returns
 returns c =
-    let s = c in
-    let a = s.args.a in
-    let d = c.distance_of-den in
-    (paired a s.args.c.mv d.ensures (taken-towards a.first d.result a.integer a.hp s.args.c.mv s.requires.2 c.take_towards-first.ensures.0) c.second_of-second.ensures, c.take_towards-first.ensures.1)
+    let d : c.from-den.result ≡ nat_abs c.args.c.reference.0 = search rules in
+    (paired c.args.a c.args.c.mv d (taken-towards c.args.a.first c.from-den.result c.args.a.integer c.args.a.hp c.args.c.mv c.requires.2 c.take_towards-first.ensures.0) c.second_of-second.ensures, c.take_towards-first.ensures.1)

@@ -1,5 +1,6 @@
 -- `temporal::aim::zero_context` meets its contract.
 use mathlib.Core.Path.{sym, ◌∙◌}
+use Rattle.frame.proofs.hints.Flags.{flag-is}
 use Rattle.temporal.specs.Temporal.{zero_of}
 use Rattle.temporal.proofs.Aims.{read_of}
 use Rattle.temporal.proofs.aim.zero_context.Goals as goal
@@ -20,4 +21,4 @@ returns-in-Absent c = rw (← c.cell_at.ensures, c.in-Absent.is)
 
 pub returns-in-Of : goal.returns-in-Of
 unfolding zero_of
-returns-in-Of c = rw (← c.cell_at.ensures, c.in-Of.is, c.flag.ensures, c.is_far.ensures, c.pair_of-p.ensures.0)
+returns-in-Of c = rw (← c.cell_at.ensures, c.in-Of.is, (c.from.ensures ∙ flag-is _), c.is_far.ensures, c.pair_of-p.ensures.0)

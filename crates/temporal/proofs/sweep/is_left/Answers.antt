@@ -1,12 +1,13 @@
 -- `temporal::sweep::is_left` meets its contract.
-use borrow.Author.Tests.{le-ltb, lt-ltb}
+use Rattle.std.proofs.Common.{arith}
+use Rattle.std.proofs.lemmas.Grind.{common_steps}
 use Rattle.temporal.specs.Sweep.{leftward, cell_of}
 use Rattle.temporal.proofs.sweep.is_left.Goals as goal
 
-pub returns-then-x-halved : goal.returns-then-x-halved
+pub returns-then-halved-x : goal.returns-then-halved-x
 unfolding leftward cell_of
-returns-then-x-halved c = rw (← c.halved-x.ensures, ← c.halved.ensures, le-ltb _ _ c.if-x-halved.true)
+returns-then-halved-x c = grind (arith, common_steps)
 
-pub returns : goal.returns
+pub returns-else-halved-x : goal.returns-else-halved-x
 unfolding leftward cell_of
-returns c = rw (← c.halved-x.ensures, ← c.halved.ensures, lt-ltb _ _ c.if-x-halved.false)
+returns-else-halved-x c = grind (arith, common_steps)

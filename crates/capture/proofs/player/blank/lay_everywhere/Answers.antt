@@ -1,5 +1,5 @@
 -- `capture::player::blank::lay_everywhere` meets its contract.
-use mathlib.Core.Path.{◌≡◌, refl, ◌∙◌}
+use mathlib.Core.Path.{◌≡◌}
 use Prim.Native.Nat.{◌-◌, ◌/◌}
 use native.Mathlib.Omega.{arith}
 use lib.ListN.{length}
@@ -9,23 +9,19 @@ use Rattle.capture.specs.player.Played.{laid_at, everywhere}
 use Rattle.capture.proofs.player.blank.lay_everywhere.Goals as goal
 
 pub loop-i-init : goal.loop-i-init
-loop-i-init c = (omega arith, refl, start _ _ _)
-
-pub write-requires : goal.write-requires
-write-requires c = let l = c.loop-i in omega arith
+loop-i-init c = start _ _ _
 
 pub loop-i-preserved : goal.loop-i-preserved
 unfolding run
 loop-i-preserved c =
     let l = c.loop-i in
-    let w = c.write in
     let a = c.args in
-    (omega arith, w.auto.s ∙ l.invariant.1, more (laid_at a.c) 0 l.i (omega arith) a.s.now l.invariant.2 w.ensures)
+    more (laid_at a.c) 0 l.i (omega arith) a.s.now l.invariant c.write.ensures
 
 pub returns : goal.returns
 unfolding everywhere
 returns c =
     let l = c.loop-i in
     let a = c.args in
-    let e : l.i - 0 ≡ length a.s.now / 5 - 0 = omega (arith, l.invariant.0) in
-    stop (laid_at a.c) 0 l.i (length a.s.now / 5) e _ l.invariant.2
+    let e : l.i - 0 ≡ length a.s.now / 5 - 0 = omega arith in
+    stop (laid_at a.c) 0 l.i (length a.s.now / 5) e _ l.invariant

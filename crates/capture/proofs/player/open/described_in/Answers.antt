@@ -5,7 +5,7 @@ use Rattle.capture.proofs.player.Opens.{described-long}
 use Rattle.capture.proofs.player.open.described_in.Goals as goal
 
 pub description_at-requires : goal.description_at-requires
-description_at-requires c = rw c.body_in.ensures (described-long _ c.requires)
+description_at-requires c = rw c.body.ensures (described-long _ c.args.capture.now.well)
 
 pub returns : goal.returns
-returns c = c.description_at.ensures ∙ ap description_at c.body_in.ensures
+returns c = c.description_at.ensures ∙ ap description_at c.body.ensures

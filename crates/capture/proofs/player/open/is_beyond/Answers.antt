@@ -1,16 +1,14 @@
 -- `capture::player::open::is_beyond` meets its contract.
+use Rattle.std.proofs.Common.{rules}
 use Rattle.ground.proofs.Tests.{tests}
 use Rattle.capture.specs.player.Opened.{beyond}
 use Rattle.capture.proofs.player.open.is_beyond.Goals as goal
-
-pub returns-then-d-gt-MOST_SIDE : goal.returns-then-d-gt-MOST_SIDE
-unfolding beyond
-returns-then-d-gt-MOST_SIDE c = search tests
+use Rattle.capture.proofs.player.open.is_beyond.Goals.{then-d-gt-MOST_SIDE, else-d-gt-MOST_SIDE}
 
 pub returns-then-d-gt-MOST_SIDE-2 : goal.returns-then-d-gt-MOST_SIDE-2
 unfolding beyond
-returns-then-d-gt-MOST_SIDE-2 c = search tests
+returns-then-d-gt-MOST_SIDE-2 c = elim c.if-d-gt-MOST_SIDE.branch [ then-d-gt-MOST_SIDE w ↦ search (rules, tests) | else-d-gt-MOST_SIDE w ↦ search (rules, tests) ]
 
-pub returns : goal.returns
+pub returns-else-d-gt-MOST_SIDE-2 : goal.returns-else-d-gt-MOST_SIDE-2
 unfolding beyond
-returns c = search tests
+returns-else-d-gt-MOST_SIDE-2 c = elim c.if-d-gt-MOST_SIDE.branch [ then-d-gt-MOST_SIDE w ↦ search (rules, tests) | else-d-gt-MOST_SIDE w ↦ search (rules, tests) ]

@@ -14,4 +14,4 @@ returns c =
     let w = c.word_at-tail.ensures in
     let j : 12 * i + 8 + 2 ≡ 12 * i + 10 = omega arith in
     let k : 12 * i + 8 + 3 ≡ 12 * i + 11 = omega arith in
-    rw (c.read_vectors-mv.ensures, c.refs_of-refs.ensures, ap (λ (xs : List ℕ). get_or xs 0 0) w, ap (λ (xs : List ℕ). get_or xs 1 0) w, ap (λ (xs : List ℕ). get_or xs 2 0) w, ap (λ (xs : List ℕ). get_or xs 3 0) w, j, k)
+    rw (c.read_vectors-mv.ensures, c.refs_of-refs.ensures, c.to_le_bytes.ensures, ap (λ (xs : List ℕ). get_or xs 0 0) w, ap (λ (xs : List ℕ). get_or xs 1 0) w, ap (λ (xs : List ℕ). get_or xs 2 0) w, ap (λ (xs : List ℕ). get_or xs 3 0) w, j, k)

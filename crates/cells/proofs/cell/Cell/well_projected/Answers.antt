@@ -10,6 +10,6 @@ pub returns-then-within : goal.returns-then-within
 unfolding well_projected
 returns-then-within c = rw (← c.projected_absent.ensures, c.if-projected_absent.false, ← c.within.ensures, c.if-within.true, ← c.from_to.ensures)
 
-pub returns : goal.returns
+pub returns-else-within : goal.returns-else-within
 unfolding well_projected
-returns c = rw (← c.projected_absent.ensures, c.if-projected_absent.false, ← c.within.ensures, c.if-within.false)
+returns-else-within c = rw (← c.projected_absent.ensures, c.if-projected_absent.false, ← c.within.ensures, c.if-within.false)

@@ -10,6 +10,6 @@ pub returns-then-from_to : goal.returns-then-from_to
 unfolding well_saved
 returns-then-from_to c = rw (← c.saved_absent.ensures, c.if-saved_absent.false, ← c.from_to.ensures, c.if-from_to.true, ← c.within.ensures)
 
-pub returns : goal.returns
+pub returns-else-from_to : goal.returns-else-from_to
 unfolding well_saved
-returns c = rw (← c.saved_absent.ensures, c.if-saved_absent.false, ← c.from_to.ensures, c.if-from_to.false)
+returns-else-from_to c = rw (← c.saved_absent.ensures, c.if-saved_absent.false, ← c.from_to.ensures, c.if-from_to.false)

@@ -1,12 +1,12 @@
 -- `frame::extent::sizes::is_superblock` meets its contract.
-use borrow.Author.Tests.{eq-eqb, ne_eqb}
 use Rattle.frame.specs.extent.Sizes.{superblock}
+use Rattle.std.proofs.Common.{rules}
 use Rattle.frame.proofs.extent.sizes.is_superblock.Goals as goal
 
 pub returns-then-sbsz-eq16 : goal.returns-then-sbsz-eq16
 unfolding superblock
-returns-then-sbsz-eq16 c = rw (eq-eqb _ _ c.if-sbsz-eq16.true)
+returns-then-sbsz-eq16 c = search rules
 
 pub returns-else-sbsz-eq16 : goal.returns-else-sbsz-eq16
 unfolding superblock
-returns-else-sbsz-eq16 c = rw (ne_eqb _ _ c.if-sbsz-eq16.false)
+returns-else-sbsz-eq16 c = search rules

@@ -10,5 +10,5 @@ use Rattle.frame.proofs.hints.distances.clipped.Goals as goal
 pub returns : goal.returns
 returns c = let b = c in
     kept w16 c.with_sign.type_inv
-    (rebuilt (λ n. min n 31) c.with_sign.ensures b.negative.ensures c.to_31.ensures c.magnitude.ensures (to_z-of_z b.ranges.d)
+    (rebuilt (λ n. min n 31) c.with_sign.ensures b.negative.ensures c.min.ensures c.magnitude.ensures (to_z-of_z b.ranges.d)
     ∙ sym (clip3-is 31 b.args.d))

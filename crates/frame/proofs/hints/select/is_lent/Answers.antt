@@ -1,8 +1,8 @@
 -- `frame::hints::select::is_lent` meets its contract.
-use mathlib.Core.Path.{refl}
 use Rattle.frame.specs.hints.Selection.{lent}
+use Rattle.std.proofs.Common.{rules}
 use Rattle.frame.proofs.hints.select.is_lent.Goals as goal
 
 pub returns : goal.returns
 unfolding lent
-returns c = refl
+returns c = search rules

@@ -1,28 +1,33 @@
 -- `frame::record::Frame::well_formed` meets its contract.
-use Rattle.frame.specs.Record.{well_frame}
-use borrow.Author.Tests.{le-leb, lt-leb}
+use mathlib.Core.Path.{◌≡◌, ◌∙◌}
+use lib.ListN.{get_or}
+use Rattle.ground.specs.Below.{all_below}
+use borrow.Author.Tests.{tests}
+use Rattle.std.proofs.lemmas.Iterator.{YieldsList-from_slice}
+use Rattle.std.proofs.lemmas.Iterator.Search.{all_from_yields_List}
+use Rattle.frame.specs.hints.Distances.{well_hint}
+use Rattle.frame.specs.Mfmv.{no_mfmv, well_mfmv}
+use Rattle.frame.specs.Record.{no_hint, well_frame}
+use Rattle.frame.proofs.Alls.{each}
+use Rattle.std.proofs.Common.{rules}
+use Rattle.frame.proofs.record.Frame.well_formed.Goals.{After-all-mfmvs}
 use Rattle.frame.proofs.record.Frame.well_formed.Goals as goal
 
-pub returns-then-not-well_formed : goal.returns-then-not-well_formed
-unfolding well_frame
-returns-then-not-well_formed c = rw (← c.well_formed-2.ensures, c.if-not-well_formed.true)
+-- each part of the two arrays, as the definition counts them
+hints : (c : After-all-mfmvs) → c.all-hints.result ≡ all_below 7 (λ i. well_hint (get_or c.args.self.refs i no_hint))
+hints c =
+    all_from_yields_List well_hint _ _ _ c.all-hints.ensures.ran (YieldsList-from_slice c.args.self.refs cc) (λ x b q k. search (rules, tests))
+    ∙ each well_hint no_hint 7 c.args.self.refs (search rules)
 
-pub returns-then-self-gt1 : goal.returns-then-self-gt1
-unfolding well_frame
-returns-then-self-gt1 c = rw (← c.well_formed-2.ensures, c.if-not-well_formed.false, lt-leb _ _ c.if-self-gt1.true)
+mfmvs : (c : After-all-mfmvs) → c.all-mfmvs.result ≡ all_below 3 (λ i. well_mfmv (get_or c.args.self.mfmvs i no_mfmv))
+mfmvs c =
+    all_from_yields_List well_mfmv _ _ _ c.all-mfmvs.ensures.ran (YieldsList-from_slice c.args.self.mfmvs cc) (λ x b q k. search (rules, tests))
+    ∙ each well_mfmv no_mfmv 3 c.args.self.mfmvs (search rules)
 
-pub returns-then-self-gt1-2 : goal.returns-then-self-gt1-2
+pub returns-then-hints : goal.returns-then-hints
 unfolding well_frame
-returns-then-self-gt1-2 c = rw (← c.well_formed-2.ensures, c.if-not-well_formed.false, le-leb _ _ c.if-self-gt1.false, lt-leb _ _ c.if-self-gt1-2.true)
+returns-then-hints c = let a = (goal.at.returns-then-hints c).After-all-mfmvs in let h = hints a in let m = mfmvs a in search rules
 
-pub returns-then-self-gt3 : goal.returns-then-self-gt3
+pub returns-else-hints : goal.returns-else-hints
 unfolding well_frame
-returns-then-self-gt3 c = rw (← c.well_formed-2.ensures, c.if-not-well_formed.false, le-leb _ _ c.if-self-gt1.false, le-leb _ _ c.if-self-gt1-2.false, lt-leb _ _ c.if-self-gt3.true)
-
-pub returns-then-not-well_hints : goal.returns-then-not-well_hints
-unfolding well_frame
-returns-then-not-well_hints c = rw (← c.well_formed-2.ensures, c.if-not-well_formed.false, le-leb _ _ c.if-self-gt1.false, le-leb _ _ c.if-self-gt1-2.false, le-leb _ _ c.if-self-gt3.false, ← c.well_hints.ensures, c.if-not-well_hints.true)
-
-pub returns : goal.returns
-unfolding well_frame
-returns c = rw (← c.well_formed-2.ensures, c.if-not-well_formed.false, le-leb _ _ c.if-self-gt1.false, le-leb _ _ c.if-self-gt1-2.false, le-leb _ _ c.if-self-gt3.false, ← c.well_hints.ensures, c.if-not-well_hints.false, ← c.well_mfmvs.ensures)
+returns-else-hints c = let a = (goal.at.returns-else-hints c).After-all-mfmvs in let h = hints a in let m = mfmvs a in search rules

@@ -3,16 +3,12 @@ use mathlib.Core.Path.{sym, ◌∙◌}
 use borrow.Author.Tests.{lt-ltb, le-ltb}
 use Rattle.ground.proofs.Picks.{pick_true, pick-false}
 use Rattle.jobs.specs.job.Bytes.{place_in}
-use Rattle.jobs.proofs.job.Bytes.{job-fits}
 use Rattle.jobs.proofs.job.job_bytes.place_in.Goals as goal
-
-pub job_in-requires : goal.job_in-requires
-job_in-requires c = (c.requires, job-fits _ _ _ c.if-i-s.true)
 
 pub returns-then-i-s : goal.returns-then-i-s
 unfolding place_in
 returns-then-i-s c = c.job_in.ensures ∙ sym (pick_true _ (lt-ltb _ _ c.if-i-s.true))
 
-pub returns : goal.returns
+pub returns-else-i-s : goal.returns-else-i-s
 unfolding place_in
-returns c = c.no_job.ensures ∙ sym (pick-false _ (le-ltb _ _ c.if-i-s.false))
+returns-else-i-s c = c.no_job.ensures ∙ sym (pick-false _ (le-ltb _ _ c.if-i-s.false))

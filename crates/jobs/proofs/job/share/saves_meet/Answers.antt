@@ -2,10 +2,10 @@
 use Rattle.jobs.specs.job.Share.{saves_meet}
 use Rattle.jobs.proofs.job.share.saves_meet.Goals as goal
 
-pub returns-then-not-overlaps : goal.returns-then-not-overlaps
+pub returns-then-overlaps : goal.returns-then-overlaps
 unfolding saves_meet
-returns-then-not-overlaps c = rw (← c.overlaps.ensures, c.if-not-overlaps.true)
+returns-then-overlaps c = rw (← c.overlaps.ensures, c.if-overlaps.true) c.overlaps-then-overlaps.ensures
 
-pub returns : goal.returns
+pub returns-else-overlaps : goal.returns-else-overlaps
 unfolding saves_meet
-returns c = rw (← c.overlaps.ensures, c.if-not-overlaps.false) c.overlaps-2.ensures
+returns-else-overlaps c = rw (← c.overlaps.ensures, c.if-overlaps.false)

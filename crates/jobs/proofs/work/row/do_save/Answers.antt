@@ -5,10 +5,10 @@ use Rattle.jobs.proofs.work.Works.{save-room}
 use Rattle.jobs.proofs.work.row.do_save.Goals as goal
 
 pub records-requires : goal.records-requires
-records-requires c = let s = c in frame-sizes s.args.f s.requires.ready.0.frame
+records-requires c = let s = c in frame-sizes s.args.inputs.now.frame s.requires.ready.0.frame
 
 pub row_entry-requires : goal.row_entry-requires
-row_entry-requires c = let s = c in (frame-sizes s.args.f s.requires.ready.0.frame, s.requires.ready.0.area)
+row_entry-requires c = let s = c in (frame-sizes s.args.inputs.now.frame s.requires.ready.0.frame, s.requires.ready.0.area)
 
 pub save_row-requires : goal.save_row-requires
 unfolding row_read

@@ -8,7 +8,6 @@ use mir.Val.{to_z, of_z}
 use mir.Syntax.{w16}
 use mir.Facts.{to_z-of_z}
 use lib.IntN.{ℤ, nat_abs}
-use Rattle.motion.specs.Code.Places.{shift}
 use Prim.Native.Nat.{ℕ, ◌≤◌}
 use native.Mathlib.Omega.{arith}
 use mathlib.Core.Path.{◌≡◌, ap, ◌∙◌, subst⁻¹}
@@ -34,14 +33,3 @@ shift_of-y-requires c = let h = held _ _ _ (got (goal.at.shift_of-y-requires c).
 
 pub shift_of-x-requires : goal.shift_of-x-requires
 shift_of-x-requires c = let h = held _ _ _ (got (goal.at.shift_of-x-requires c).After-mv_projection-o) in omega (arith, ap nat_abs h.0.1, h.1.1)
-
-pub returns : goal.returns
-returns c =
-    let g = got (goal.at.returns c).After-mv_projection-o in
-    let a = c.args in
-    let h = held _ _ _ g in
-    record {
-      y = c.shift_of-y.ensures.0 ∙ ap (shift a.m.back) (h.0.0 ∙ ap (λ (v : Mv). v.y) g);
-      x = c.shift_of-x.ensures.0 ∙ ap (shift a.m.back) (h.0.1 ∙ ap (λ (v : Mv). v.x) g);
-      short = (c.shift_of-y.ensures.1, c.shift_of-x.ensures.1);
-    }

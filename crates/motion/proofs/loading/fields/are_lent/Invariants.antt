@@ -2,12 +2,8 @@
 use Rattle.motion.specs.loading.Fields.{is_lent}
 use mathlib.Core.Bool.{true}
 use Rattle.ground.specs.Below.{all_below}
-use Prim.Native.Nat.{◌-◌, ◌≤◌}
 use mathlib.Core.Path.{◌≡◌}
 use Rattle.motion.proofs.loading.fields.are_lent.Given as goal
 
 abbrev pub invariant-loop-i : goal.invariant-loop-i
-invariant-loop-i l = (l.i ≤ l.us.n) × (all_below l.i (is_lent l.us (record { form = l.form })) ≡ true)
-
-abbrev pub decreases-loop-i : goal.decreases-loop-i
-decreases-loop-i l = l.us.n - l.i
+invariant-loop-i l = all_below l.i (is_lent l.fn.us (record { form = l.form })) ≡ true

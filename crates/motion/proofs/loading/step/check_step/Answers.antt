@@ -4,14 +4,8 @@ use native.Mathlib.Omega.{arith}
 use mathlib.Core.Path.{◌∙◌}
 use Rattle.motion.proofs.loading.step.check_step.Goals as goal
 
-pub nonzero_div-pass : goal.nonzero_div-pass
-nonzero_div-pass c = let s = c in omega (arith, c.rows_of-rows.ensures, s.requires.some)
-
 pub returns-then-pass-eq0 : goal.returns-then-pass-eq0
 returns-then-pass-eq0 c = clears-read _ _ _ c.rows_of-rows.ensures c.if-pass-eq0.true
-
-pub nonzero_rem-k : goal.nonzero_rem-k
-nonzero_rem-k c = let s = c in omega (arith, c.rows_of-rows.ensures, s.requires.some)
 
 pub overflow_add-w : goal.overflow_add-w
 overflow_add-w c =

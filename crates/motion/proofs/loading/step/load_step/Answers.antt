@@ -17,11 +17,6 @@ nonzero_rem-y c = let s = c in let i = within _ _ _ c.rows_of-rows.ensures s.req
 pub overflow_add-y : goal.overflow_add-y
 overflow_add-y c = let s = c in let i = within _ _ _ c.rows_of-rows.ensures s.requires.k_bound.0 in omega (arith, i.under, s.requires.fields.bounded.low)
 
-pub clear_row-requires : goal.clear_row-requires
-clear_row-requires c =
-    let s = c in
-    (s.requires.fields.bounded.cols, s.requires.fields.bounded.wide, s.requires.k_bound.1)
-
 pub returns-then-pass-eq0 : goal.returns-then-pass-eq0
 returns-then-pass-eq0 c =
     let s = c in

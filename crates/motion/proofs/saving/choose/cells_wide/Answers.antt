@@ -2,8 +2,8 @@
 use Rattle.motion.proofs.saving.Walks.{wide_of, wide-none}
 use Rattle.motion.proofs.saving.choose.cells_wide.Goals as goal
 
-pub returns-in-Of : goal.returns-in-Of
-returns-in-Of c = wide_of _ _ _ c.dimensions.ensures c.in-Of.is c.halved_up.ensures
+pub returns-in-Some : goal.returns-in-Some
+returns-in-Some c = wide_of _ _ _ c.dimensions.ensures c.in-Some.is c.halved_up.ensures
 
-pub returns-in-Refused : goal.returns-in-Refused
-returns-in-Refused c = wide-none _ _ c.dimensions.ensures c.in-Refused.is
+pub returns-in-None : goal.returns-in-None
+returns-in-None c = wide-none _ _ c.dimensions.ensures c.in-None.is

@@ -1,10 +1,9 @@
 -- `motion::saving::save::check_rows` meets its contract.
-use mathlib.Core.Path.{◌≡◌, refl, ap, ◌∙◌}
+use mathlib.Core.Path.{◌≡◌, ap, ◌∙◌}
 use Rattle.ground.proofs.Spans.{asked, ask-on, ask-stops}
 use Rattle.frame.proofs.Records.{frame-sizes}
 use Rattle.motion.specs.saving.Save.{strip_read, row_read, save_table}
 use Rattle.motion.proofs.saving.Saves.{walk-ready, reads_all}
-use borrow.Author.Rules.{rules}
 use Rattle.motion.proofs.saving.save.check_rows.Goals as goal
 use Rattle.motion.proofs.saving.save.check_rows.Goals.{After-check_row-answer}
 
@@ -15,28 +14,19 @@ unfolding row_read
 read c = c.check_row-answer.ensures ∙ ap (strip_read _ _ _) c.row_entry.ensures
 
 pub records-total-requires : goal.records-total-requires
-records-total-requires c = let s = c in frame-sizes s.args.f s.requires.frame
-
-pub loop-y-init : goal.loop-y-init
-loop-y-init c = refl
+records-total-requires c = frame-sizes c.args.f c.requires.frame
 
 pub row_entry-requires : goal.row_entry-requires
-row_entry-requires c = let s = c in (frame-sizes s.args.f s.requires.frame, s.requires.area)
+row_entry-requires c = (frame-sizes c.args.f c.requires.frame, c.requires.area)
 
 pub check_row-answer-requires : goal.check_row-answer-requires
-check_row-answer-requires c = let s = c in walk-ready s.args.f s.args.a c.strip_in-w.ensures c.records-total.ensures s.requires
+check_row-answer-requires c = walk-ready c.args.f c.args.a c.strip_in-w.ensures c.records-total.ensures c.requires
 
 pub returns-then-answer-ne0 : goal.returns-then-answer-ne0
 returns-then-answer-ne0 c =
     let a = c.args in
     reads_all a.recs.now a.f a.a a.sby a.pass c.strip_in-w.ensures c.records-total.ensures
     (ask-stops _ _ _ c.loop-y-test.true (read (goal.at.returns-then-answer-ne0 c).After-check_row-answer) c.if-answer-ne0.true ∙ c.loop-y.invariant)
-
-pub overflow_add-y : goal.overflow_add-y
-overflow_add-y c = let t = c.loop-y-test.true in search rules
-
-pub loop-y-smaller : goal.loop-y-smaller
-loop-y-smaller c = let t = c.loop-y-test.true in search rules
 
 pub loop-y-preserved : goal.loop-y-preserved
 loop-y-preserved c = ask-on _ _ _ c.loop-y-test.true (read (goal.at.loop-y-preserved c).After-check_row-answer) c.if-answer-ne0.false ∙ c.loop-y.invariant

@@ -19,5 +19,7 @@ returns-then-answer-ne0 c = let s = c.args in let e = reads-answer s.recs.now s.
 pub save_rows-requires : goal.save_rows-requires
 save_rows-requires c = let s = c.args in sym (reads-answer s.recs.now s.f s.a s.sby s.pass _ c.save_front-front.ensures c.if-front-ne0.false c.check_rows-answer.ensures) ∙ c.if-answer-ne0.false
 
-pub returns : goal.returns
-returns c = let s = c.args in let e = reads-answer s.recs.now s.f s.a s.sby s.pass _ c.save_front-front.ensures c.if-front-ne0.false c.check_rows-answer.ensures in record { value = sym c.if-answer-ne0.false ∙ e; field_after = c.save_rows.ensures }
+pub returns-clause-value : goal.returns-clause-value
+returns-clause-value c =
+    let s = c.args in
+    sym c.if-answer-ne0.false ∙ reads-answer s.recs.now s.f s.a s.sby s.pass _ c.save_front-front.ensures c.if-front-ne0.false c.check_rows-answer.ensures

@@ -1,20 +1,9 @@
 -- `motion::saving::walk::check_walk` meets its contract.
 use mathlib.Core.Path.{refl, ◌∙◌}
 use native.Mathlib.Omega.{arith}
-use native.Mathlib.Nat.{le_refl}
 use Prim.Native.Nat.{◌-◌}
 use Rattle.motion.proofs.saving.Walks.{record-there, listed-fits, record-refuses, past-limit, up-to-limit, none_left, stops, next}
-use borrow.Author.Rules.{rules}
 use Rattle.motion.proofs.saving.walk.check_walk.Goals as goal
-
-pub loop-x-init : goal.loop-x-init
-loop-x-init c = (_, le_refl _, c.narrowest-last.ensures, refl)
-
-pub check_record-answer-requires : goal.check_record-answer-requires
-check_record-answer-requires c =
-    let p = c.requires in
-    let t = c.loop-x-test.true in
-    (omega arith, λ h. listed-fits _ _ _ _ c.listed_cells-n.ensures p.1 h)
 
 pub returns-then-answer-ne0 : goal.returns-then-answer-ne0
 returns-then-answer-ne0 c =
@@ -28,16 +17,10 @@ width_at-last-requires c =
     let h = record-there _ _ _ _ c.check_record-answer.ensures c.if-answer-ne0.false in
     (omega arith, listed-fits _ _ _ _ c.listed_cells-n.ensures p.1 h, c.loop-x.invariant.2)
 
-pub overflow_add-x : goal.overflow_add-x
-overflow_add-x c = let t = c.loop-x-test.true in let e = c.width_at-last.ensures in search rules
-
 pub returns-then-w-x : goal.returns-then-w-x
 returns-then-w-x c =
     let i = c.loop-x.invariant in
     stops _ _ _ _ _ _ _ i.1 c.loop-x-test.true (past-limit _ _ _ _ _ c.listed_cells-n.ensures c.check_record-answer.ensures c.if-answer-ne0.false c.width_at-last.ensures.0 c.if-w-x.true) (λ z. absurd (omega arith)) ∙ i.3
-
-pub loop-x-smaller : goal.loop-x-smaller
-loop-x-smaller c = let t = c.loop-x-test.true in let e = c.width_at-last.ensures in search rules
 
 pub loop-x-preserved : goal.loop-x-preserved
 loop-x-preserved c =

@@ -1,7 +1,6 @@
 -- `motion::saving::walk::write_walk` meets its contract.
-use mathlib.Core.Path.{◌≡◌, refl, sym, ap, ◌∙◌}
+use mathlib.Core.Path.{◌≡◌, sym, ap, ◌∙◌}
 use native.Mathlib.Omega.{arith}
-use native.Mathlib.Nat.{le_refl}
 use Prim.Native.Nat.{ℕ, ◌+◌, ◌-◌}
 use lib.ListN.{get_or}
 use Rattle.cells.specs.declared.block.Block.{Block}
@@ -9,7 +8,6 @@ use Rattle.frame.specs.declared.hints.distances.RefHint.{RefHint}
 use Rattle.frame.specs.Record.{no_hint}
 use Rattle.motion.specs.saving.Save.{chosen, cells_wide, block_on, wide_on, walk_read}
 use Rattle.motion.proofs.saving.Walks.{Passed, record-fits, chosen_by_lem, first, row-none, row-turn}
-use borrow.Author.Rules.{rules}
 use Rattle.motion.proofs.saving.walk.write_walk.Goals as goal
 use Rattle.motion.proofs.saving.walk.write_walk.Goals.{After-choose, After-width_after-last, In-loop-x}
 
@@ -36,26 +34,11 @@ picked c =
     c.choose.ensures ∙ chosen_by_lem refs b.result (ap hint c.hint_place.ensures.0) (ap hint c.hint_place-in-loop-x.ensures.0)
     ∙ ap (chosen refs) b.ensures
 
-pub loop-x-init : goal.loop-x-init
-loop-x-init c = record { left = _; fuel = le_refl _; ok = c.requires.left_value; laid = refl; long = refl; known = c.narrowest-last.ensures }
-
 pub block_of-b-requires : goal.block_of-b-requires
 block_of-b-requires c = let p = c.requires.end_le_limit in let t = c.loop-x-test.true in (omega arith, record-fits _ _ _ (pass c).0.there p.2)
 
-pub width_after-last-requires : goal.width_after-last-requires
-width_after-last-requires c = c.loop-x.invariant.known
-
-pub overflow_add-first : goal.overflow_add-first
-overflow_add-first c = let p = c.requires.end_le_limit in let t = c.loop-x-test.true in record { fits = omega (arith, p.0, p.3) }
-
 pub fill_cells-requires : goal.fill_cells-requires
 fill_cells-requires c = let p = c.requires.end_le_limit in let q = (pass (goal.at.fill_cells-requires c).In-loop-x).0.fits in let e = wide (goal.at.fill_cells-requires c).After-width_after-last in let i = c.loop-x.invariant in omega (arith, i.long)
-
-pub overflow_add-x : goal.overflow_add-x
-overflow_add-x c = let p = c.requires.end_le_limit in let t = c.loop-x-test.true in let e = c.width_after-last.ensures in search rules
-
-pub loop-x-smaller : goal.loop-x-smaller
-loop-x-smaller c = let t = c.loop-x-test.true in let e = c.width_after-last.ensures in search rules
 
 pub loop-x-preserved : goal.loop-x-preserved
 loop-x-preserved c =

@@ -3,10 +3,10 @@ use borrow.Author.Tests.{le-leb, lt-leb}
 use Rattle.order.specs.steps.Turn.{names}
 use Rattle.order.proofs.steps.turn.is_named.Goals as goal
 
-pub returns-then-batch-gt8 : goal.returns-then-batch-gt8
+pub returns-then-batch-le8 : goal.returns-then-batch-le8
 unfolding names
-returns-then-batch-gt8 c = rw (lt-leb _ _ c.if-batch-gt8.true)
+returns-then-batch-le8 c = rw (le-leb _ _ c.if-batch-le8.true)
 
-pub returns : goal.returns
+pub returns-else-batch-le8 : goal.returns-else-batch-le8
 unfolding names
-returns c = rw (le-leb _ _ c.if-batch-gt8.false)
+returns-else-batch-le8 c = rw (lt-leb _ _ c.if-batch-le8.false)

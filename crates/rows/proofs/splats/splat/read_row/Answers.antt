@@ -1,11 +1,12 @@
 -- `rows::splats::splat::read_row` meets its contract.
 use Rattle.rows.specs.splats.Splat.{row_read}
+use Rattle.std.proofs.Common.{rules}
 use Rattle.rows.proofs.splats.splat.read_row.Goals as goal
 
-pub returns-in-Absent : goal.returns-in-Absent
+pub returns-in-None : goal.returns-in-None
 unfolding row_read
-returns-in-Absent c = rw c.in-Absent.is
+returns-in-None c = search rules
 
-pub returns-in-At : goal.returns-in-At
+pub returns-in-Some : goal.returns-in-Some
 unfolding row_read
-returns-in-At c = rw (c.in-At.is, c.read_at.ensures)
+returns-in-Some c = search rules

@@ -4,7 +4,6 @@ use mathlib.Core.List.{List}
 use Prim.Native.Nat.{ℕ, suc, ◌<◌}
 use native.Mathlib.Numerals.{add-one}
 use native.Mathlib.Omega.{arith}
-use borrow.Author.Rules.{rules}
 use lib.ListN.{length, get_or, set}
 use Rattle.stack.specs.declared.candidate.Candidate.{Candidate}
 use Rattle.stack.specs.Stack.{nobody}
@@ -33,46 +32,35 @@ next r cs zs i h e f =
     ∙ sym (map_from-next (λ d j. slot_of d r j) nobody cs i h)
 
 pub loop-i-init : goal.loop-i-init
-loop-i-init c = (search rules, sym (map_from-none (λ d j. slot_of d c.planned-p.result.found j) nobody c.args.stack.now 0))
+loop-i-init c = sym (map_from-none (λ d j. slot_of d c.planned-p.result.found j) nobody c.args.stack.now 0)
 
 pub offset_bounds-stack-i : goal.offset_bounds-stack-i
 offset_bounds-stack-i c =
     let a = c.args in
-    record { fits = omega (arith, (there (length a.stack.now) a.frame.now a.tile.now a.recs.now a.proj.now a.a c.planned-p.ensures c.loop-i-test.true).1) }
+    record { fits = omega (arith, (there (length a.stack.now) a.from.frame.now a.from.tile.now a.from.recs.now a.from.proj.now a.a c.planned-p.ensures {i = c.loop-i.i} (omega arith)).1) }
 
-pub slice_copy_out-old : goal.slice_copy_out-old
-slice_copy_out-old c =
+pub slice_copy_out-slot : goal.slice_copy_out-slot
+slice_copy_out-slot c =
     let a = c.args in
-    omega (arith, c.loop-i.auto.stack, (there (length a.stack.now) a.frame.now a.tile.now a.recs.now a.proj.now a.a c.planned-p.ensures c.loop-i-test.true).0)
+    omega (arith, c.loop-i.auto.stack, (there (length a.stack.now) a.from.frame.now a.from.tile.now a.from.recs.now a.from.proj.now a.a c.planned-p.ensures {i = c.loop-i.i} (omega arith)).0)
 
 pub slot-requires : goal.slot-requires
 slot-requires c =
     let a = c.args in
-    (there (length a.stack.now) a.frame.now a.tile.now a.recs.now a.proj.now a.a c.planned-p.ensures c.loop-i-test.true).1
+    (there (length a.stack.now) a.from.frame.now a.from.tile.now a.from.recs.now a.from.proj.now a.a c.planned-p.ensures {i = c.loop-i.i} (omega arith)).1
 
 pub offset_bounds-stack-i-in-loop-i : goal.offset_bounds-stack-i-in-loop-i
 offset_bounds-stack-i-in-loop-i c =
     let a = c.args in
-    record { fits = omega (arith, (there (length a.stack.now) a.frame.now a.tile.now a.recs.now a.proj.now a.a c.planned-p.ensures c.loop-i-test.true).1) }
+    record { fits = omega (arith, (there (length a.stack.now) a.from.frame.now a.from.tile.now a.from.recs.now a.from.proj.now a.a c.planned-p.ensures {i = c.loop-i.i} (omega arith)).1) }
 
 pub bounds-stack-i : goal.bounds-stack-i
 bounds-stack-i c =
     let a = c.args in
-    omega (arith, c.loop-i.auto.stack, (there (length a.stack.now) a.frame.now a.tile.now a.recs.now a.proj.now a.a c.planned-p.ensures c.loop-i-test.true).0)
+    omega (arith, c.loop-i.auto.stack, (there (length a.stack.now) a.from.frame.now a.from.tile.now a.from.recs.now a.from.proj.now a.a c.planned-p.ensures {i = c.loop-i.i} (omega arith)).0)
 
 pub loop-i-preserved : goal.loop-i-preserved
 loop-i-preserved c =
     let a = c.args in
-    let h = (there (length a.stack.now) a.frame.now a.tile.now a.recs.now a.proj.now a.a c.planned-p.ensures c.loop-i-test.true).0 in
-    (omega arith, rw (add-one c.loop-i.i) (next c.planned-p.result.found a.stack.now c.loop-i.stack c.loop-i.i h c.loop-i.invariant.1 c.slot.ensures))
-
-pub returns : goal.returns
-returns c =
-    let a = c.args in
-    let e = c.planned-p.ensures in
-    let n : c.loop-i.i ≡ c.planned-p.result.n = omega arith in (
-      ap (λ (q : Plan). q.answer) e,
-      c.loop-i.invariant.1
-          ∙ ap (map_from (λ d j. slot_of d c.planned-p.result.found j) a.stack.now 0) n
-          ∙ ap (λ (q : Plan). map_from (λ d j. slot_of d q.found j) a.stack.now 0 q.n) e,
-    )
+    let h = (there (length a.stack.now) a.from.frame.now a.from.tile.now a.from.recs.now a.from.proj.now a.a c.planned-p.ensures {i = c.loop-i.i} (omega arith)).0 in
+    rw (add-one c.loop-i.i) (next c.planned-p.result.found a.stack.now c.loop-i.stack c.loop-i.i h c.loop-i.invariant c.slot.ensures)

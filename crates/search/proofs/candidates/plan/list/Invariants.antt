@@ -1,6 +1,6 @@
 -- `search::candidates::plan::list` meets its contract: the first i records hold the first i candidates.
 use mathlib.Core.Path.{◌≡◌}
-use Prim.Native.Nat.{◌-◌, ◌≤◌}
+use Prim.Native.Nat.{◌≤◌}
 use lib.ListN.{take}
 use Rattle.stack.specs.Code.Found.{live}
 use Rattle.stack.specs.Code.Numbers.{found_at}
@@ -8,7 +8,4 @@ use Rattle.search.specs.candidates.Plan.{eight}
 use Rattle.search.proofs.candidates.plan.list.Given as goal
 
 abbrev pub invariant-loop-i : goal.invariant-loop-i
-invariant-loop-i l = (l.i ≤ l.n) × (l.n ≤ 8) × (l.l ≡ eight (take l.i (live (found_at l.s))))
-
-abbrev pub decreases-loop-i : goal.decreases-loop-i
-decreases-loop-i l = l.n - l.i
+invariant-loop-i l = (l.i ≤ 8) × (l.l ≡ eight (take l.i (live (found_at l.s))))

@@ -18,11 +18,6 @@ returns-then-r-ne0 c =
     c.refusal-then-r-ne0.ensures
     ∙ finds-none _ _ _ _ _ _ g.is_ref-compound.ensures (sym g.is_lacking.ensures ∙ g.if-is_lacking.false) g.find-r.result _ g.find-r.ensures.s_after c.if-r-ne0.true
 
-pub acceptance-requires : goal.acceptance-requires
-acceptance-requires c =
-    let z = c.if-r-ne0.false in
-    (c.find-r.ensures.held z, z)
-
 pub returns : goal.returns
 returns c =
     let g = c in

@@ -4,7 +4,4 @@ use Rattle.search.proofs.extra.lists.bias_of.Goals as goal
 
 pub place-requires : goal.place-requires
 unfolding is_ref
-place-requires c = c.requires.1
-
-pub returns : goal.returns
-returns c = rw c.place.ensures.0
+place-requires c = c.requires

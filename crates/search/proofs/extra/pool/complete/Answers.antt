@@ -23,10 +23,10 @@ returns-then-is_first c =
     let n = how-many a.args.s.now a.requires.0 in
     (t.0, omega arith, t.2 ∙ completes-first a.args.p a.args.q _ (omega arith) (sym c.is_first.ensures ∙ c.if-is_first.true))
 
-pub returns : goal.returns
+pub returns-else-is_first : goal.returns-else-is_first
 unfolding view
-returns c =
+returns-else-is_first c =
     let a = c in
-    let t = c.push-2.ensures in
+    let t = c.push-else-is_first.ensures in
     let n = how-many a.args.s.now a.requires.0 in
     (t.0, omega arith, t.2 ∙ completes-other a.args.p a.args.q _ (omega arith) (sym c.is_first.ensures ∙ c.if-is_first.false))

@@ -1,13 +1,11 @@
 -- `search::extra::walk::compound_along` meets its contract.
-use mathlib.Core.Path.{refl, sym}
+use mathlib.Core.Path.{sym}
 use native.Mathlib.Omega.{arith}
 use Rattle.search.specs.Code.Pool.{pools_of}
 use Rattle.search.specs.Code.Walk.{pooled}
-use Rattle.search.proofs.extra.Walks.{line, some, known, strides, ends₂, refuses₂, goes₂}
+use Rattle.spatial.specs.Code.Neighbour.{line_from}
+use Rattle.search.proofs.extra.Walks.{some, known, strides, ends₂, refuses₂, goes₂}
 use Rattle.search.proofs.extra.walk.compound_along.Goals as goal
-
-pub loop-x-init : goal.loop-x-init
-loop-x-init c = (c.args.limit.0, omega arith, refl)
 
 pub returns-in-Refused : goal.returns-in-Refused
 unfolding pooled
@@ -16,41 +14,40 @@ returns-in-Refused c =
     let a = l.args in
     let e = c.neighbour_at.ensures in
     let is = c.in-Refused.is in
-    rw (some a.tile.now a.recs.now a.total a.l l.loop-x.x e is)
-    (sym (refuses₂ (line a.tile.now a.recs.now a.total a.l) a.l.down a.limit.0 a.biases.now a.refs _ l.loop-x.x (pools_of l.loop-x.t) _ c.loop-x-test.true e is l.loop-x.invariant))
+    rw (some a.records a.l l.loop-x.x e is)
+    (sym (refuses₂ (line_from a.records a.l) a.l.down a.limit.0 a.wanted.biases.now a.wanted.refs _ l.loop-x.x (pools_of l.loop-x.t) _ c.loop-x-test.true e is l.loop-x.invariant))
 
 pub gather-t-requires : goal.gather-t-requires
 gather-t-requires c =
     let l = c in
     let a = l.args in
-    let p = l.requires in
-    (p.1, p.2, p.3, (known a.tile.now a.recs.now a.total a.l l.loop-x.x c.neighbour_at.ensures c.in-Of.is).well)
+    (known a.records a.l l.loop-x.x c.neighbour_at.ensures c.in-Of.is).well
 
 pub overflow_add-x : goal.overflow_add-x
 overflow_add-x c =
     let l = c in
     let a = l.args in
-    let far = strides a.tile.now a.recs.now a.total a.l l.loop-x.x c.neighbour_at.ensures a.l.down c.in-Of.is c.along-x.ensures in
-    omega (arith, far, c.loop-x-test.true, l.requires.0.short)
+    let far = strides a.records a.l l.loop-x.x c.neighbour_at.ensures a.l.down c.in-Of.is c.along-x.ensures in
+    omega (arith, far, c.loop-x-test.true, l.requires.short)
 
 pub loop-x-smaller : goal.loop-x-smaller
 loop-x-smaller c =
     let l = c in
     let a = l.args in
-    let far = strides a.tile.now a.recs.now a.total a.l l.loop-x.x c.neighbour_at.ensures a.l.down c.in-Of.is c.along-x.ensures in
-    omega (arith, far, c.loop-x-test.true, l.requires.0.short)
+    let far = strides a.records a.l l.loop-x.x c.neighbour_at.ensures a.l.down c.in-Of.is c.along-x.ensures in
+    omega (arith, far, c.loop-x-test.true, l.requires.short)
 
 pub loop-x-preserved : goal.loop-x-preserved
 loop-x-preserved c =
     let l = c in
     let a = l.args in
-    let far = strides a.tile.now a.recs.now a.total a.l l.loop-x.x c.neighbour_at.ensures a.l.down c.in-Of.is c.along-x.ensures in
+    let far = strides a.records a.l l.loop-x.x c.neighbour_at.ensures a.l.down c.in-Of.is c.along-x.ensures in
     rw c.gather-t.ensures
-    (goes₂ (line a.tile.now a.recs.now a.total a.l) a.l.down a.limit.0 a.biases.now a.refs _ l.loop-x.x (pools_of l.loop-x.t) _ c.loop-x-test.true c.neighbour_at.ensures c.in-Of.is c.along-x.ensures far.0 l.loop-x.invariant)
+    (goes₂ (line_from a.records a.l) a.l.down a.limit.0 a.wanted.biases.now a.wanted.refs _ l.loop-x.x (pools_of l.loop-x.t) _ c.loop-x-test.true c.neighbour_at.ensures c.in-Of.is c.along-x.ensures far.0 l.loop-x.invariant)
 
 pub returns : goal.returns
 unfolding pooled
 returns c =
     let l = c in
     let a = l.args in
-    sym (ends₂ (line a.tile.now a.recs.now a.total a.l) a.l.down a.limit.0 a.biases.now a.refs _ l.loop-x.x (pools_of l.loop-x.t) c.loop-x-test.false l.loop-x.invariant)
+    sym (ends₂ (line_from a.records a.l) a.l.down a.limit.0 a.wanted.biases.now a.wanted.refs _ l.loop-x.x (pools_of l.loop-x.t) c.loop-x-test.false l.loop-x.invariant)

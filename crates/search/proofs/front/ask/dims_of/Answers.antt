@@ -2,10 +2,10 @@
 use Rattle.search.specs.front.Ask.{dims_of}
 use Rattle.search.proofs.front.ask.dims_of.Goals as goal
 
-pub returns-in-Of : goal.returns-in-Of
+pub returns-in-Some : goal.returns-in-Some
 unfolding dims_of
-returns-in-Of c = rw (← c.dimensions.ensures, c.in-Of.is)
+returns-in-Some c = rw (← c.dimensions.ensures, c.in-Some.is)
 
-pub returns-in-Refused : goal.returns-in-Refused
+pub returns-in-None : goal.returns-in-None
 unfolding dims_of
-returns-in-Refused c = rw (← c.dimensions.ensures, c.in-Refused.is)
+returns-in-None c = rw (← c.dimensions.ensures, c.in-None.is)

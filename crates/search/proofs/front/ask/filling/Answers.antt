@@ -6,6 +6,6 @@ pub returns-then-is_ref : goal.returns-then-is_ref
 unfolding filling_of
 returns-then-is_ref c = rw (← c.is_ref.ensures, c.if-is_ref.true)
 
-pub returns : goal.returns
+pub returns-else-is_ref : goal.returns-else-is_ref
 unfolding filling_of
-returns c = rw (← c.is_ref.ensures, c.if-is_ref.false)
+returns-else-is_ref c = rw (← c.is_ref.ensures, c.if-is_ref.false)

@@ -9,15 +9,17 @@ use Rattle.layout.specs.FrameBytes.{frame_at}
 use Rattle.layout.proofs.Read.{sizes-well}
 use Rattle.search.specs.front.Ask.{find_front}
 use Rattle.search.proofs.front.Fronts.{projected-fit}
+use Rattle.search.proofs.front.ask.find_front.Goals.{then-not-well_frame-via-then-not-well_frame, then-not-well_frame-via-else-not-well_frame+then-not-are_flags}
 use Rattle.search.proofs.front.ask.find_front.Goals as goal
 
 pub returns-then-not-well_frame : goal.returns-then-not-well_frame
 unfolding find_front
-returns-then-not-well_frame c = rw (← c.well_frame.ensures, c.if-not-well_frame.true)
-
-pub returns-then-not-are_flags : goal.returns-then-not-are_flags
-unfolding find_front
-returns-then-not-are_flags c = rw (← c.well_frame.ensures, c.if-not-well_frame.false, ← c.are_flags.ensures, c.if-not-are_flags.true)
+returns-then-not-well_frame c =
+    elim c.then-not-well_frame.branch [
+      | then-not-well_frame-via-then-not-well_frame w ↦ rw (← c.well_frame.ensures, w.if-not-well_frame.true)
+      | then-not-well_frame-via-else-not-well_frame+then-not-are_flags w ↦
+          rw (← c.well_frame.ensures, w.if-not-well_frame.false, ← w.are_flags.ensures, w.if-not-are_flags.true)
+    ]
 
 pub returns-then-not-is_askable : goal.returns-then-not-is_askable
 unfolding find_front frame_at

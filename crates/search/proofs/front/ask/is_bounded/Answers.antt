@@ -1,11 +1,12 @@
 -- `search::front::ask::is_bounded` meets its contract.
+use Rattle.std.proofs.Common.{rules, tests}
 use Rattle.search.specs.front.Ask.{bounded}
 use Rattle.search.proofs.front.ask.is_bounded.Goals as goal
 
-pub returns-then-is_ref : goal.returns-then-is_ref
+pub returns-then-not-is_ref : goal.returns-then-not-is_ref
 unfolding bounded
-returns-then-is_ref c = rw (← c.is_ref.ensures, c.if-is_ref.true, ← c.within.ensures)
+returns-then-not-is_ref c = search (rules, tests)
 
-pub returns : goal.returns
+pub returns-else-not-is_ref : goal.returns-else-not-is_ref
 unfolding bounded
-returns c = rw (← c.is_ref.ensures, c.if-is_ref.false)
+returns-else-not-is_ref c = search (rules, tests)

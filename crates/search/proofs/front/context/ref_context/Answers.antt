@@ -1,17 +1,16 @@
 -- `search::front::context::ref_context` meets its contract.
-use native.Mathlib.Omega.{arith}
-use borrow.Author.Tests.{eq-eqb, ne_eqb}
+use Rattle.std.proofs.Common.{rules, tests}
 use Rattle.search.specs.front.Context.{ref_context}
 use Rattle.search.proofs.front.context.ref_context.Goals as goal
 
-pub returns-then-nearest-eq0 : goal.returns-then-nearest-eq0
+pub returns-in-0 : goal.returns-in-0
 unfolding ref_context
-returns-then-nearest-eq0 c = (rw (eq-eqb _ _ c.if-nearest-eq0.true), omega arith)
+returns-in-0 c = search (rules, tests)
 
-pub returns-then-nearest-eq1 : goal.returns-then-nearest-eq1
+pub returns-in-1 : goal.returns-in-1
 unfolding ref_context
-returns-then-nearest-eq1 c = (rw (ne_eqb _ _ c.if-nearest-eq0.false, eq-eqb _ _ c.if-nearest-eq1.true), omega arith)
+returns-in-1 c = search (rules, tests)
 
-pub returns : goal.returns
+pub returns-in_default : goal.returns-in_default
 unfolding ref_context
-returns c = (rw (ne_eqb _ _ c.if-nearest-eq0.false, ne_eqb _ _ c.if-nearest-eq1.false), omega arith)
+returns-in_default c = search (rules, tests)

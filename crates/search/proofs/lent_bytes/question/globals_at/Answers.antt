@@ -4,4 +4,4 @@ use Rattle.search.proofs.lent_bytes.question.globals_at.Goals as goal
 
 pub returns : goal.returns
 unfolding globals_at
-returns c = rw (c.read-first.ensures, c.read-second.ensures)
+returns c = rw (c.read.ensures, c.read-2.ensures)

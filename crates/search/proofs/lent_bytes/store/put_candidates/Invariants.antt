@@ -1,6 +1,5 @@
 -- `search::lent_bytes::store::put_candidates` meets its contract.
 use mathlib.Core.Path.{◌≡◌}
-use Prim.Native.Nat.{◌-◌, ◌≤◌}
 use lib.ListN.{length}
 use Rattle.ground.specs.Script.{run}
 use Rattle.ground.specs.Span.{span}
@@ -11,7 +10,4 @@ use Rattle.search.proofs.lent_bytes.store.put_candidates.Given as goal
 
 abbrev pub invariant-loop-i : goal.invariant-loop-i
 invariant-loop-i l =
-    (l.i ≤ l.n) × (l.n ≤ 8) × (length l.stack ≡ length l.initial.stack) × (l.stack ≡ run (span (candidate_of l.compound (live (found_at l.s))) 0 l.i) l.initial.stack)
-
-abbrev pub decreases-loop-i : goal.decreases-loop-i
-decreases-loop-i l = l.n - l.i
+    (length l.stack ≡ length l.initial.stack) × (l.stack ≡ run (span (candidate_of l.compound (live (found_at l.s))) 0 l.i) l.initial.stack)

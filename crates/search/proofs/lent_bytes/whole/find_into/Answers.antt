@@ -10,16 +10,6 @@ returns-then-r-ne0 c =
     let z = lends_back f.result (found_at f.new.s) f.ensures.s_after (is_ref c.ask_at-a.result.refs.second) c.args.stack.now c.args.out.now c.if-r-ne0.true in
     rw (← c.ask_at-a.ensures) (record { value = z.0; stack_after = z.1.0; out_after = z.1.1 })
 
-pub put_stack-requires : goal.put_stack-requires
-put_stack-requires c =
-    let z = c.if-r-ne0.false in
-    (c.requires.3, c.find-r.ensures.held z, z)
-
-pub put_found-requires : goal.put_found-requires
-put_found-requires c =
-    let z = c.if-r-ne0.false in
-    (c.requires.4, c.find-r.ensures.held z, z)
-
 pub returns : goal.returns
 returns c =
     let f = c.find-r in

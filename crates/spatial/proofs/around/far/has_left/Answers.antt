@@ -3,10 +3,10 @@ use borrow.Author.Tests.{eq-eqb, ne_eqb}
 use Rattle.spatial.specs.around.Around.{has_left}
 use Rattle.spatial.proofs.around.far.has_left.Goals as goal
 
-pub returns-then-depth-eq0 : goal.returns-then-depth-eq0
+pub returns-then-depth-ne0 : goal.returns-then-depth-ne0
 unfolding has_left
-returns-then-depth-eq0 c = rw (← c.depth.ensures, eq-eqb _ _ c.if-depth-eq0.true)
+returns-then-depth-ne0 c = rw (← c.depth.ensures, ne_eqb _ _ c.if-depth-ne0.true, ← c.depth-then-depth-ne0.ensures)
 
-pub returns : goal.returns
+pub returns-else-depth-ne0 : goal.returns-else-depth-ne0
 unfolding has_left
-returns c = rw (← c.depth.ensures, ne_eqb _ _ c.if-depth-eq0.false, ← c.depth-2.ensures)
+returns-else-depth-ne0 c = rw (← c.depth.ensures, eq-eqb _ _ c.if-depth-ne0.false)

@@ -2,40 +2,36 @@
 use mathlib.Core.Path.{◌∙◌}
 use native.Mathlib.Omega.{arith}
 use borrow.Author.Tests.{le-leb, lt-leb, lt-ltb}
-use Rattle.layout.specs.TileBytes.{tile_at}
-use Rattle.spatial.specs.neighbours.Neighbour.{read_at}
+use Rattle.spatial.specs.Code.Neighbour.{read_from}
 use Rattle.spatial.specs.Code.Scan.{scanned}
 use Rattle.stack.specs.Code.Numbers.{view_at}
 use Rattle.spatial.specs.around.Around.{far_of}
 use Rattle.spatial.proofs.around.Places.{far-room, far-fair}
 use Rattle.spatial.proofs.around.Steps.{reaches, far-is}
+use Rattle.spatial.proofs.around.far.scan_far.Goals.{then-n-reach-via-then-n-reach, then-n-reach-via-else-n-reach+then-depth-n}
 use Rattle.spatial.proofs.around.far.scan_far.Goals as goal
 
-pub returns-then-n-reach : goal.returns-then-n-reach
+pub returns-then-n-reach-clause-s_after : goal.returns-then-n-reach-clause-s_after
 unfolding far_of scanned
-returns-then-n-reach c = record { held = (c.requires.2, omega arith, omega arith); s_after = rw (le-leb _ _ c.if-n-reach.true) }
-
-pub returns-then-depth-n : goal.returns-then-depth-n
-unfolding far_of scanned
-returns-then-depth-n c = record { held = (c.requires.2, omega arith, omega arith); s_after = rw (lt-leb _ _ c.if-n-reach.false, ← c.depth.ensures, lt-ltb _ _ c.if-depth-n.true) }
+returns-then-n-reach-clause-s_after c =
+    elim c.then-n-reach.branch [
+      | then-n-reach-via-then-n-reach w ↦ rw (le-leb _ _ w.if-n-reach.true)
+      | then-n-reach-via-else-n-reach+then-depth-n w ↦ rw (lt-leb _ _ w.if-n-reach.false, ← w.depth.ensures, lt-ltb _ _ w.if-depth-n.true)
+    ]
 
 pub scan_line-r-requires : goal.scan_line-r-requires
 scan_line-r-requires c =
-    let f = c in
-    let a = f.args in (
-      rw c.far_line.ensures (far-room f.requires.0 a.b f.requires.1 a.down a.n),
-      f.requires.2,
-      rw c.far_span.ensures (far-fair (omega (arith, f.requires.3)) a.b f.requires.1 a.down a.n f.requires.4),
+    let a = c.args in (
+      rw c.far_line.ensures (far-room a.b c.requires.0 a.down a.n),
+      c.requires.1,
+      rw c.far_span.ensures (far-fair (omega (arith, c.requires.2)) a.b c.requires.0 a.down a.n c.requires.3),
     )
 
-pub returns : goal.returns
-returns c =
+pub returns-clause-s_after : goal.returns-clause-s_after
+returns-clause-s_after c =
     let s = c.scan_line-r in
-    let m = c in
-    let a = m.args in
-    let r = s.ensures in record {
-      held = (r.held.0, r.held.1, omega (arith, r.held.2));
-      s_after = reaches s.result _ a.reach
-          ∙ far-is (read_at (tile_at a.tile.now).rows a.recs.now a.total) a.b a.down a.q (view_at a.s.now) r.s_after m.far_line.ensures m.far_span.ensures m.if-n-reach.false
-          (omega (arith, m.if-depth-n.false, m.depth.ensures));
-    }
+    let a = c.args in
+    let r = s.ensures in
+    reaches s.result _ a.reach
+    ∙ far-is (read_from a.records) a.b a.down a.q (view_at a.s.now) r.s_after c.far_line.ensures c.far_span.ensures c.if-n-reach.false
+    (omega (arith, c.if-depth-n.false, c.depth.ensures))

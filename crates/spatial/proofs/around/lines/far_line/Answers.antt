@@ -6,12 +6,6 @@ use Rattle.spatial.specs.around.Lines.{far_line}
 use Rattle.spatial.proofs.around.Places.{row-most, odd-most, inside}
 use Rattle.spatial.proofs.around.lines.far_line.Goals as goal
 
-pub overflow_sub-n : goal.overflow_sub-n
-overflow_sub-n c = omega (arith, c.requires.1)
-
-pub odd-off-requires : goal.odd-off-requires
-odd-off-requires c = omega (arith, c.requires.2)
-
 pub overflow_add-result : goal.overflow_add-result
 overflow_add-result c = let r = c.row_of-row in record { fits = omega (arith, c.odd_of.ensures, odd-most r.result.0, r.ensures, row-most c.args.b) }
 
@@ -27,9 +21,6 @@ returns-then-down c =
 
 pub overflow_add-row : goal.overflow_add-row
 overflow_add-row c = record { fits = omega (arith, c.row_of-row.ensures, row-most c.args.b) }
-
-pub overflow_sub-row : goal.overflow_sub-row
-overflow_sub-row c = omega (arith, c.requires.1, c.requires.2, c.odd-off.ensures)
 
 pub doubled-requires : goal.doubled-requires
 doubled-requires c = omega (arith, c.halved.ensures, c.row_of-row.ensures, row-most c.args.b)

@@ -3,9 +3,6 @@ use native.Mathlib.Omega.{arith}
 use Rattle.spatial.specs.around.Lines.{odd_of}
 use Rattle.spatial.proofs.around.lines.odd_of.Goals as goal
 
-pub odd-requires : goal.odd-requires
-odd-requires c = omega (arith, c.halved.ensures)
-
 pub returns : goal.returns
 unfolding odd_of
 returns c = omega (arith, c.odd.ensures, c.halved.ensures)

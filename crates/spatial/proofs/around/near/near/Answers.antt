@@ -1,10 +1,7 @@
 -- `spatial::around::near::near` meets its contract.
-use mathlib.Core.Path.{sym, ◌∙◌}
 use native.Mathlib.Nat.{le_trans}
-use native.Mathlib.Omega.{arith}
 use lib.Dec.{lit≤}
-use Rattle.layout.specs.TileBytes.{tile_at}
-use Rattle.spatial.specs.neighbours.Neighbour.{read_at}
+use Rattle.spatial.specs.Code.Neighbour.{read_from}
 use Rattle.spatial.proofs.around.Steps.{no-heft, more, light}
 use Rattle.spatial.proofs.around.Chains.{near-row-not, near-column-not, near-ends}
 use Rattle.spatial.proofs.around.near.near.Goals as goal
@@ -13,10 +10,7 @@ pub scan_near-row-requires : goal.scan_near-row-requires
 scan_near-row-requires c =
     let p = c.requires in
     let o = c.clear.ensures in
-    (p.0, p.1, o.0, light 0 (no-heft _ o.1) (lit≤ tt))
-
-pub shape_of-s-then-row-ne0 : goal.shape_of-s-then-row-ne0
-shape_of-s-then-row-ne0 c = c.scan_near-row.ensures.held.0.size ∙ sym c.requires.2
+    (p.0, o.0, light 0 (no-heft _ o.1) (lit≤ tt))
 
 pub returns-then-row-ne0 : goal.returns-then-row-ne0
 returns-then-row-ne0 c =
@@ -25,17 +19,14 @@ returns-then-row-ne0 c =
     let o = z.clear.ensures in
     let a = z.args in
     let w = more 0 512 (no-heft _ o.1) r.ensures.held.1 in
-    rw c.around_by.ensures (record { held = (r.ensures.held.0, le_trans w (lit≤ tt), lit≤ tt, lit≤ tt); s_after = near-row-not (read_at (tile_at a.tile.now).rows a.recs.now a.total) a.b a.decoded a.q o.2 r.result _ r.ensures.s_after c.if-row-ne0.true })
+    rw c.around_by.ensures (record { held = (r.ensures.held.0, le_trans w (lit≤ tt), lit≤ tt, lit≤ tt); s_after = near-row-not (read_from a.records) a.b a.decoded a.q o.2 r.result _ r.ensures.s_after c.if-row-ne0.true })
 
 pub scan_near-column-requires : goal.scan_near-column-requires
 scan_near-column-requires c =
     let p = c.requires in
     let r = c.scan_near-row.ensures.held in
     let w = more 0 512 (no-heft _ c.clear.ensures.1) r.1 in
-    (p.0, p.1, r.0, light 512 w (lit≤ tt))
-
-pub shape_of-s-then-column-ne0 : goal.shape_of-s-then-column-ne0
-shape_of-s-then-column-ne0 c = c.scan_near-column.ensures.held.0.size ∙ sym c.requires.2
+    (p.0, r.0, light 512 w (lit≤ tt))
 
 pub returns-then-column-ne0 : goal.returns-then-column-ne0
 returns-then-column-ne0 c =
@@ -46,10 +37,7 @@ returns-then-column-ne0 c =
     let o = z.clear.ensures in
     let a = z.args in
     let w = more 512 512 (more 0 512 (no-heft _ o.1) r.ensures.held.1) s.ensures.held.1 in
-    rw c.around_by-then-column-ne0.ensures (record { held = (s.ensures.held.0, le_trans w (lit≤ tt), lit≤ tt, lit≤ tt); s_after = near-column-not (read_at (tile_at a.tile.now).rows a.recs.now a.total) a.b a.decoded a.q o.2 r.result _ r.ensures.s_after c.if-row-ne0.false s.result _ s.ensures.s_after c.if-column-ne0.true })
-
-pub overflow_add-b : goal.overflow_add-b
-overflow_add-b c = let p = c.requires.1 in record { fits = omega (arith, p.before, p.wide, p.most.0) }
+    rw c.around_by-then-column-ne0.ensures (record { held = (s.ensures.held.0, le_trans w (lit≤ tt), lit≤ tt, lit≤ tt); s_after = near-column-not (read_from a.records) a.b a.decoded a.q o.2 r.result _ r.ensures.s_after c.if-row-ne0.false s.result _ s.ensures.s_after c.if-column-ne0.true })
 
 pub point_where-right-requires : goal.point_where-right-requires
 point_where-right-requires c =
@@ -57,10 +45,7 @@ point_where-right-requires c =
     let y = c in
     let z = y in
     let w = more 512 512 (more 0 512 (no-heft _ z.clear.ensures.1) y.scan_near-row.ensures.held.1) s.1 in
-    (z.requires.0, s.0, light 1024 w (lit≤ tt))
-
-pub shape_of-s : goal.shape_of-s
-shape_of-s c = c.point_where-right.ensures.held.0.size ∙ sym c.requires.2
+    (s.0, light 1024 w (lit≤ tt))
 
 pub returns : goal.returns
 returns c =
@@ -73,4 +58,4 @@ returns c =
     let o = z.clear.ensures in
     let a = z.args in
     let w = more 512 512 (more 0 512 (no-heft _ o.1) r.ensures.held.1) s.ensures.held.1 in
-    rw c.around_by-2.ensures (record { held = (t.ensures.held.0, more 1024 4 w t.ensures.held.1, r.ensures.held.2, s.ensures.held.2); s_after = near-ends (read_at (tile_at a.tile.now).rows a.recs.now a.total) a.b a.decoded a.q o.2 r.result _ r.ensures.s_after x.if-row-ne0.false s.result _ s.ensures.s_after c.if-column-ne0.false t.result _ (rw (← c.has_right.ensures) t.ensures.s_after) })
+    rw c.around_by-2.ensures (record { held = (t.ensures.held.0, more 1024 4 w t.ensures.held.1, r.ensures.held.2, s.ensures.held.2); s_after = near-ends (read_from a.records) a.b a.decoded a.q o.2 r.result _ r.ensures.s_after x.if-row-ne0.false s.result _ s.ensures.s_after c.if-column-ne0.false t.result _ (rw (← c.has_right.ensures) t.ensures.s_after) })

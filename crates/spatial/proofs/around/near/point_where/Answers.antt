@@ -8,11 +8,11 @@ use Rattle.spatial.proofs.around.near.point_where.Goals as goal
 pub overflow_add-row_of : goal.overflow_add-row_of
 overflow_add-row_of c = record { fits = omega (arith, c.row_of.ensures, row-most c.args.b) }
 
-pub returns-then-here : goal.returns-then-here
+pub returns-then-here-clause-s_after : goal.returns-then-here-clause-s_after
 unfolding point_where
-returns-then-here c =
-    let r = c.point.ensures in record { held = r.held; s_after = rw (c.if-here.true, ← c.row_of.ensures) r.s_after }
+returns-then-here-clause-s_after c =
+    let r = c.point.ensures in rw (c.if-here.true, ← c.row_of.ensures) r.s_after
 
-pub returns : goal.returns
+pub returns-clause-s_after : goal.returns-clause-s_after
 unfolding point_where scanned
-returns c = record { held = (c.requires.1, omega arith); s_after = rw c.if-here.false }
+returns-clause-s_after c = rw c.if-here.false

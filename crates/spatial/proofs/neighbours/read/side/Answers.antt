@@ -4,12 +4,12 @@ use Rattle.spatial.proofs.neighbours.read.side.Goals as goal
 
 pub returns-then-down : goal.returns-then-down
 unfolding side_of
-returns-then-down c = rw (← c.dimensions.ensures, c.in-Of.is, c.if-down.true)
+returns-then-down c = rw (← c.dimensions.ensures, c.in-Some.is, c.if-down.true)
 
-pub returns-in-Refused : goal.returns-in-Refused
+pub returns-in-None : goal.returns-in-None
 unfolding side_of
-returns-in-Refused c = rw (← c.dimensions.ensures, c.in-Refused.is)
+returns-in-None c = rw (← c.dimensions.ensures, c.in-None.is)
 
 pub returns-else-down : goal.returns-else-down
 unfolding side_of
-returns-else-down c = rw (← c.dimensions.ensures, c.in-Of.is, c.if-down.false)
+returns-else-down c = rw (← c.dimensions.ensures, c.in-Some.is, c.if-down.false)

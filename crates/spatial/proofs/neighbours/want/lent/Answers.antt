@@ -1,15 +1,16 @@
 -- `spatial::neighbours::want::lent` meets its contract.
 use Rattle.spatial.specs.neighbours.Want.{lent_of}
+use Rattle.spatial.proofs.neighbours.want.lent.Goals.{else-global-via-then-global+else-not-is_invalid, else-global-via-else-global}
 use Rattle.spatial.proofs.neighbours.want.lent.Goals as goal
 
-pub returns-then-is_invalid : goal.returns-then-is_invalid
+pub returns-then-not-is_invalid : goal.returns-then-not-is_invalid
 unfolding lent_of
-returns-then-is_invalid c = rw (c.if-global.true, ← c.is_invalid.ensures, c.if-is_invalid.true)
+returns-then-not-is_invalid c = rw (c.if-global.true, ← c.is_invalid.ensures, c.if-not-is_invalid.true)
 
-pub returns-then-global : goal.returns-then-global
+pub returns-else-global : goal.returns-else-global
 unfolding lent_of
-returns-then-global c = rw (c.if-global.true, ← c.is_invalid.ensures, c.if-is_invalid.false)
-
-pub returns : goal.returns
-unfolding lent_of
-returns c = rw c.if-global.false
+returns-else-global c =
+    elim c.else-global.branch [
+      | else-global-via-then-global+else-not-is_invalid w ↦ rw (w.if-global.true, ← w.is_invalid.ensures, w.if-not-is_invalid.false)
+      | else-global-via-else-global w ↦ rw w.if-global.false
+    ]

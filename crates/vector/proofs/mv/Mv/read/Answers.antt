@@ -5,6 +5,4 @@ use Rattle.vector.proofs.Words.{of_four}
 use Rattle.vector.proofs.mv.Mv.read.Goals as goal
 
 pub returns : goal.returns
-returns c =
-    let s = c in
-    c.of_bits.ensures ∙ ap mv_of c.u32_at.ensures ∙ of_four s.args.s.now s.args.at (λ j. (c.shared_slice_known-1.given j).fits)
+returns c = c.of_bits.ensures ∙ ap mv_of c.u32_at.ensures ∙ of_four c.args.s.now c.args.at (λ j. (c.type_inv.s j).fits)

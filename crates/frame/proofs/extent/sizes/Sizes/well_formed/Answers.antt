@@ -1,19 +1,12 @@
 -- `frame::extent::sizes::Sizes::well_formed` meets its contract.
-use mathlib.Core.Path.{sym, ◌∙◌}
 use Rattle.frame.specs.extent.Sizes.{well_sizes}
+use Rattle.std.proofs.Common.{rules}
 use Rattle.frame.proofs.extent.sizes.Sizes.well_formed.Goals as goal
-
-pub returns-then-not-limited : goal.returns-then-not-limited
-unfolding well_sizes
-returns-then-not-limited c = rw (← c.limited.ensures, c.if-not-limited.true)
-
-pub follow-requires : goal.follow-requires
-follow-requires c = sym c.limited.ensures ∙ c.if-not-limited.false
 
 pub returns-then-is_superblock : goal.returns-then-is_superblock
 unfolding well_sizes
-returns-then-is_superblock c = rw (← c.limited.ensures, c.if-not-limited.false, ← c.is_superblock.ensures, c.if-is_superblock.true, ← c.follow.ensures)
+returns-then-is_superblock c = search rules
 
-pub returns : goal.returns
+pub returns-else-is_superblock : goal.returns-else-is_superblock
 unfolding well_sizes
-returns c = rw (← c.limited.ensures, c.if-not-limited.false, ← c.is_superblock.ensures, c.if-is_superblock.false)
+returns-else-is_superblock c = search rules

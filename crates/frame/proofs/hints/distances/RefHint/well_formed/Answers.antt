@@ -5,18 +5,13 @@ use lib.Dec.{leb}
 use lib.IntN.{nat_abs}
 use Rattle.ground.proofs.Bits.{same}
 use Rattle.frame.specs.hints.Distances.{well_hint}
-use borrow.Author.Tests.{le-leb, lt-leb}
-use borrow.Author.Rules.{rules}
+use Rattle.std.proofs.Common.{rules}
 use Rattle.frame.proofs.hints.distances.RefHint.well_formed.Goals as goal
 
-pub returns-then-self-gt1 : goal.returns-then-self-gt1
+pub returns-then-self-le1-2 : goal.returns-then-self-le1-2
 unfolding well_hint
-returns-then-self-gt1 c = rw (lt-leb _ _ c.if-self-gt1.true)
+returns-then-self-le1-2 c = let e = c.near.ensures ∙ ap (λ z. leb (nat_abs z) 31) (same w16 c.args.self.pocdiff (search rules)) in search rules
 
-pub returns-then-self-gt1-2 : goal.returns-then-self-gt1-2
+pub returns-else-self-le1-2 : goal.returns-else-self-le1-2
 unfolding well_hint
-returns-then-self-gt1-2 c = rw (le-leb _ _ c.if-self-gt1.false, lt-leb _ _ c.if-self-gt1-2.true)
-
-pub returns : goal.returns
-unfolding well_hint
-returns c = let s = c.args.self in let e = c.near.ensures ∙ ap (λ z. leb (nat_abs z) 31) (same w16 s.pocdiff (search rules)) in rw (le-leb _ _ c.if-self-gt1.false, le-leb _ _ c.if-self-gt1-2.false, e)
+returns-else-self-le1-2 c = search rules

@@ -1,8 +1,8 @@
 -- `jobs::job::record::Batch::well_formed` meets its contract.
-use Rattle.jobs.proofs.job.Batches.{one-to-eight}
 use mathlib.Core.Path.{sym, ◌∙◌}
 use Rattle.ground.proofs.Picks.{and-on, and-off}
 use Rattle.jobs.specs.job.Job.{well_batch}
+use Rattle.jobs.proofs.job.Batches.{one-to-eight}
 use Rattle.jobs.proofs.job.record.Batch.well_formed.Goals as goal
 
 pub are_kinds-requires : goal.are_kinds-requires
@@ -12,6 +12,6 @@ pub returns-then-one_to : goal.returns-then-one_to
 unfolding well_batch
 returns-then-one_to c = c.are_kinds.ensures ∙ sym (and-on (sym c.one_to.ensures ∙ c.if-one_to.true))
 
-pub returns : goal.returns
+pub returns-else-one_to : goal.returns-else-one_to
 unfolding well_batch
-returns c = sym (and-off _ (sym c.one_to.ensures ∙ c.if-one_to.false))
+returns-else-one_to c = c.if-one_to.false ∙ sym (and-off _ (sym c.one_to.ensures ∙ c.if-one_to.false))

@@ -4,4 +4,4 @@ use Rattle.spatial.proofs.site.block.Site.depth.Goals as goal
 
 pub returns : goal.returns
 unfolding depth_of
-returns c = rw (c.least.ensures, c.most_lines.ensures, c.side.ensures, c.halved_up.ensures, c.behind.ensures)
+returns c = rw (c.min.ensures, c.most_lines.ensures, c.side.ensures, c.halved_up-lines.ensures, c.behind.ensures)

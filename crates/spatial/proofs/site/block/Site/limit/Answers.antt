@@ -4,4 +4,4 @@ use Rattle.spatial.proofs.site.block.Site.limit.Goals as goal
 
 pub returns : goal.returns
 unfolding limit_of
-returns c = rw (c.least.ensures, c.rest.ensures, c.least-most.ensures, c.side.ensures)
+returns c = rw (c.min-2.ensures, c.rest.ensures, c.min.ensures, c.side.ensures)

@@ -1,8 +1,0 @@
--- `spatial::neighbours::read::Line::col_at` meets its contract.
-use Rattle.spatial.proofs.neighbours.read.Line.col_at.Goals as goal
-
-pub returns-then-self : goal.returns-then-self
-returns-then-self c = rw c.if-self.true
-
-pub returns : goal.returns
-returns c = rw c.if-self.false
