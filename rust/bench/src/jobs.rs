@@ -13,6 +13,9 @@ use std::hint::black_box;
 
 const JOBS: usize = 8;
 
+/// A job clears each of its rows, and then takes each from three references.
+const PASSES: usize = 4;
+
 /// Eight loads of one superblock row, side by side: admitted together, and stepped by turns until all
 /// are done. The Rust loads them whole, one after the other.
 pub fn batch() -> Timing {
@@ -35,7 +38,7 @@ pub fn batch() -> Timing {
         let mut batch = fresh.concat();
         let sources = black_box(&sources);
         assert_eq!(jobs::admit(sources, &batch, &projection, &[]), 0);
-        for k in (0..JOBS).cycle().take(JOBS * load::HIGH) {
+        for k in (0..JOBS).cycle().take(JOBS * PASSES * load::HIGH) {
             let answer = jobs::step(sources, &mut batch, k, &mut projection, &mut []);
             assert_eq!(answer, 0);
         }
