@@ -19,7 +19,7 @@ use Rattle.ground.proofs.Belows as belows
 use Rattle.ground.proofs.Diffs.{Which, more, less, which}
 use Rattle.std.specs.Prelude.{Option, Some, None, Ok, Err, MatchOption, is_some, unwrap_or}
 use Rattle.std.specs.Slice.{IsGetRangeResult}
-use Rattle.std.specs.declared.ops.Range.{Range}
+use Rattle.capture.specs.declared.file.Span.{Span}
 use Rattle.capture.specs.File.{entries, kind_at, offset_at, length_at, has_entries, start_of, tiled, whole_body, kinds, is_new, once, seek, entry_of, found, well_file, Scan, scan_of, part_of, body_at, body_of}
 use Rattle.capture.specs.declared.file.Malformed.{Malformed}
 
@@ -328,7 +328,7 @@ module _ (f : List ℕ) (k : ℕ) where
       by true false p q h = record { well = p; none = entry-none f k (ltb-false _ _ q) }
 
   -- the two ends that a scan tells
-  abbrev ends : Scan → Range ℕ
+  abbrev ends : Scan → Span
   ends (Ok (Some r)) = r
   ends (Ok None) = record { start = 0; end = 0 }
   ends (Err _) = record { start = 0; end = 0 }

@@ -1,11 +1,11 @@
 -- A capture file's bytes (document 01, "Capture file"): one byte E, E entries of 9 bytes (kind, offset, length), then the bodies.
 use Rattle.std.specs.Prelude.{ℕ, zero, suc, ◌+◌, ◌-◌, ◌*◌, ◌%◌, Bool, ◌&&◌, not, List, [], eqb, leb, ltb, length, get_or, take, drop, Option, Some, None, Result, Ok, Err}
-use Rattle.std.specs.declared.ops.Range.{Range}
 use Rattle.ground.specs.Below.{all_below}
 use Rattle.ground.specs.Little.{four_at}
 use Rattle.ground.specs.Pick.{pick}
 use Rattle.jobs.specs.job.Bytes.{capture_job}
 use Rattle.capture.specs.declared.file.Malformed.{Malformed}
+use Rattle.capture.specs.declared.file.Span.{Span}
 
 abbrev pub entries : List ℕ → ℕ
 entries f = get_or f 0 0
@@ -67,7 +67,7 @@ well_file f = has_entries f && tiled f && kinds f && once f && eqb (kind_at f 0)
 
 -- what stands there for kind k: an error for a malformed file, none for an absent kind, or where the body starts and ends
 abbrev pub Scan : Type 0
-Scan = Result (Option (Range ℕ)) Malformed
+Scan = Result (Option Span) Malformed
 
 unfoldable pub scan_of : List ℕ → ℕ → Scan
 scan_of f k =

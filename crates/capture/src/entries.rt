@@ -3,7 +3,7 @@ ghost use Rattle.std.specs.Prelude.{◌≡◌, true, false, ◌+◌, ◌*◌, �
 ghost use Rattle.capture.specs.File.{entries, kind_at, offset_at, length_at, start_of, has_entries, tiled};
 ghost use Rattle.capture.specs.File.{whole_body, kinds, is_new, once, entry_of, found, well_file};
 
-use ground::read::{size_at, u32_at};
+use ground::read::u32_at;
 use jobs::job::job_bytes::CAPTURE_JOB;
 
 const ENTRY: usize = 9;
@@ -56,9 +56,9 @@ impl<'a> Entries<'a> {
 
     fn offset(&self, i: usize) -> usize
         requires { i < entries self.now.file.now }
-        ensures { result ≡ offset_at self.now.file.now i }
+        ensures { (result ≡ offset_at self.now.file.now i) × (result < 4294967296) }
     {
-        size_at(self.file, 2 + ENTRY * i)
+        u32_at(self.file, 2 + ENTRY * i) as usize
     }
 
     fn length(&self, i: usize) -> usize

@@ -6,6 +6,7 @@ ghost use Rattle.cells.specs.Block.{vectors_at, refs_in, block_at, tail_bytes, b
 
 use crate::cell::Ref;
 use ground::read::word_at;
+use ground::twos::{byte_bits, signed_byte};
 use vector::mv::Mv;
 
 // One for each of a block's two references.
@@ -53,8 +54,8 @@ fn refs_of(n: u32) -> RefPair
 {
     let [first, second, _, _] = n.to_le_bytes();
     RefPair {
-        first: Ref(first.cast_signed()),
-        second: Ref(second.cast_signed()),
+        first: Ref(signed_byte(first)),
+        second: Ref(signed_byte(second)),
     }
 }
 
@@ -103,8 +104,8 @@ fn write_tail(s: &mut [u8], at: usize, refs: RefPair, bs: u8, mf: u8)
     requires { at + 4 ≤ length s.old }
     ensures { s.new ≡ put s.old at (tail_bytes refs bs mf) }
 {
-    s[at] = refs.first.0.cast_unsigned();
-    s[at + 1] = refs.second.0.cast_unsigned();
+    s[at] = byte_bits(refs.first.0);
+    s[at + 1] = byte_bits(refs.second.0);
     s[at + 2] = bs;
     s[at + 3] = mf;
 }

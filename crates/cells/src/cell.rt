@@ -5,6 +5,7 @@ ghost use Rattle.ground.specs.Put.{put};
 ghost use Rattle.ground.specs.Sign.{from_to};
 ghost use Rattle.cells.specs.Cell.{is_ref, cell_at, cell_bytes, saved_absent, projected_absent, well_saved, well_projected};
 
+use ground::twos::{byte_bits, signed_byte};
 use vector::mv::Mv;
 
 // A reference frame, 1..7, INTRA or NONE; in a projected cell a distance, 1..31. It stays a number:
@@ -54,7 +55,7 @@ impl Cell {
         let at = 5 * i;
         Cell {
             mv: Mv::read(s, at),
-            reference: Ref(s[at + 4].cast_signed()),
+            reference: Ref(signed_byte(s[at + 4])),
         }
     }
 
@@ -64,7 +65,7 @@ impl Cell {
     {
         let at = 5 * i;
         self.mv.write(s, at);
-        s[at + 4] = self.reference.0.cast_unsigned();
+        s[at + 4] = byte_bits(self.reference.0);
     }
 
     // In a saved field reference 0 marks a cell with no motion, whatever its vector.

@@ -10,6 +10,7 @@ use crate::neighbours::records::Records;
 use crate::neighbours::want::Want;
 use crate::take::add_spatial;
 use cells::pos::Pos4;
+use ground::bound::{least, most};
 
 // The block's side along the line, how far neighbours are looked at, how many rows of neighbours the
 // search may look at from here on, and the least that a neighbour counts for.
@@ -47,7 +48,7 @@ fn weigh(p: Span, across: Pos4) -> usize
     if p.size.0 == 1 {
         return 2;
     }
-    (2 * p.rows).min(across.0).max(2)
+    most(2, least(2 * p.rows, across.0))
 }
 
 // 9 where a later neighbour is as long as the block.

@@ -7,6 +7,7 @@ ghost use Rattle.temporal.specs.Temporal.{towards, pair_of, cell_read, apart, fa
 
 use cells::block::MvPair;
 use cells::cell::Cell;
+use ground::sign::magnitude;
 use stack::numbers::pair_bits;
 use vector::mv::Mv;
 use vector::precision::fix_mv_precision;
@@ -75,7 +76,7 @@ fn pair_of(c: Cell, a: Aim) -> MvPair
     ensures { (result ≡ pair_of a (nat_abs c.reference.0) c.mv) × Within 16384 result.first }
 {
     // A projected cell's distance stands in place of a reference.
-    let den = u32::from(c.reference.0.unsigned_abs());
+    let den = magnitude(i16::from(c.reference.0));
     let first = take_towards(c.mv, a.first, den, a.integer, a.hp);
     let second = second_of(c, a, den);
     MvPair { first, second }

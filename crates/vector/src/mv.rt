@@ -4,7 +4,7 @@ ghost use Rattle.ground.specs.Put.{put};
 ghost use Rattle.vector.specs.Vector.{Within, within, invalid, eq_mv, both, mv_at, mv_bytes, mv_bits, mv_of};
 
 use ground::read::u32_at;
-use ground::twos::write_half;
+use ground::twos::{half_bits, signed_half, write_half};
 
 // In eighths of a sample, down and to the right.
 #[derive(Clone, Copy, Debug, PartialEq, Eq)]
@@ -57,14 +57,14 @@ impl Mv {
     pub fn bits(self) -> u32
         ensures { result ≡ mv_bits self }
     {
-        self.y.cast_unsigned() as u32 + 65536 * (self.x.cast_unsigned() as u32)
+        half_bits(self.y) as u32 + 65536 * (half_bits(self.x) as u32)
     }
 
     pub fn of_bits(n: u32) -> Mv
         ensures { result ≡ mv_of n }
     {
-        let y = ((n % 65536) as u16).cast_signed();
-        let x = ((n / 65536) as u16).cast_signed();
+        let y = signed_half((n % 65536) as u16);
+        let x = signed_half((n / 65536) as u16);
         Mv { y, x }
     }
 

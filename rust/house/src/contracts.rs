@@ -6,11 +6,15 @@ use crate::definitions::heads;
 use crate::definitions::imports;
 use crate::definitions::Import;
 use crate::functions_of;
+use crate::types::shared;
+use crate::types::types_of;
+use crate::types::with_facts;
 use crate::wrap::wrap;
 use crate::Crate;
 use crate::File;
 use crate::Function;
 use crate::Printed;
+use crate::Type;
 use crate::Wrong;
 
 const HEAD: &str = "\
@@ -23,7 +27,8 @@ Each public function, crate by crate and module by module:
 
 - what it promises: the definitions that its `ensures` cites, with the file that each stands in (cells/Block is
   crates/cells/specs/Block.antt), and those of its facts that cite none;
-- what it requires of its caller, in the same way;
+- what it requires of its caller, in the same way; behind `of its` and a type, the facts that stand in the type of what
+  it is handed, or of what that holds: whoever makes such a value has shown them;
 - the wrong programs that its contract shuts out, by name and in words. The gate applies each to a copy of its crate,
   with others in one edit (`must-fail/`), and the prover has to refuse it because a fact fails. Most change the
   function itself; `in` names another that does its work, private or in another crate, where that one is changed:
@@ -49,13 +54,17 @@ struct Book {
     libraries: Vec<(Crate, Vec<Wrong>)>,
     /// Crate and path of every public function.
     public: Vec<(String, String)>,
+    /// Those of all libraries, private ones too: a public one may hold them.
+    types: Vec<Type>,
 }
 
 impl Book {
     fn read() -> Book {
         let mut libraries = Vec::new();
         let mut public = Vec::new();
+        let mut types = Vec::new();
         for library in crates::libraries() {
+            types.extend(library.files("src").iter().flat_map(types_of));
             let wrong = library.wrong();
             for function in library
                 .functions()
@@ -66,7 +75,11 @@ impl Book {
             }
             libraries.push((library, wrong));
         }
-        Book { libraries, public }
+        Book {
+            libraries,
+            public,
+            types,
+        }
     }
 
     /// The function that a wrong program of a crate stands for by this name: one of its own, or behind the name of
@@ -82,9 +95,10 @@ impl Book {
             .find(|function| self.public.contains(function))
     }
 
-    /// Names behind `for:` that no public function has.
+    /// Names behind `for:` that no public function has, and of types whose facts can't be told apart.
     fn faults(&self) -> Vec<String> {
-        let mut faults = Vec::new();
+        let told = |name| format!("{name}: facts stand behind one of several types of this name");
+        let mut faults: Vec<String> = shared(&self.types).into_iter().map(told).collect();
         for (library, wrong) in &self.libraries {
             for one in wrong {
                 for path in one
@@ -158,7 +172,7 @@ impl Book {
             ));
         }
         let promised = cited(&function.ensures, imports);
-        let required = cited(&function.requires, imports);
+        let required = required(function, imports, &self.types);
         let mut text = wrap(
             "- ",
             &format!("**`{path}`**: {promised}. Requires {required}."),
@@ -279,6 +293,21 @@ pub fn cited(clauses: &[String], imports: &[Import]) -> String {
     if all.is_empty() {
         return "nothing".into();
     }
+    all.join("; ")
+}
+
+/// What a function's clauses require, and behind it the facts of the types that it is handed.
+pub fn required(function: &Function, imports: &[Import], types: &[Type]) -> String {
+    let of_types = with_facts(types, &function.takes);
+    let mut all = Vec::new();
+    if of_types.is_empty() || !function.requires.is_empty() {
+        all.push(cited(&function.requires, imports));
+    }
+    all.extend(
+        of_types
+            .iter()
+            .map(|(name, facts)| format!("of its `{name}` {facts}")),
+    );
     all.join("; ")
 }
 

@@ -1,11 +1,14 @@
 //! Functions of a source file: their lines, and the clauses of their contracts.
 
+use crate::types::names_in;
 use crate::File;
 
 pub struct Function {
     /// In its crate: modules, the type whose function it is, its name.
     pub path: String,
     pub public: bool,
+    /// The names in its parameters, their types among them; for `self`, the type whose function it is.
+    pub takes: Vec<String>,
     /// The type of what it gives back, if it does.
     pub result: String,
     pub requires: Vec<String>,
@@ -89,13 +92,15 @@ fn function(module: &str, lines: &[&str], first: usize) -> Function {
             .expect("an end");
     let text = lines[first..=last].join("\n");
     let head = Head::of(&text);
-    let (_, name) = start.split_once("fn ").expect("a name");
-    let name = name.split(['(', '<']).next().unwrap_or_default();
-    let names = [module, owner(lines, first).unwrap_or_default(), name];
+    let (_, behind) = text.split_once("fn ").expect("a name");
+    let name = behind.split(['(', '<']).next().unwrap_or_default();
+    let owner = owner(lines, first).unwrap_or_default();
+    let names = [module, owner, name];
     let names: Vec<&str> = names.into_iter().filter(|name| !name.is_empty()).collect();
     Function {
         path: names.join("::"),
         public: start.starts_with("pub fn") || start.starts_with("pub extern"),
+        takes: taken(behind, owner),
         result: head.result,
         requires: head.requires,
         ensures: head.ensures,
@@ -103,6 +108,17 @@ fn function(module: &str, lines: &[&str], first: usize) -> Function {
         first,
         last,
     }
+}
+
+/// The names in the parameters of what stands behind `fn`.
+fn taken(behind: &str, owner: &str) -> Vec<String> {
+    let open = behind.find('(').expect("parameters");
+    let parameters = &behind[open..open + closing(&behind[open..])];
+    let told = |name| match name {
+        "self" | "Self" => owner,
+        other => other,
+    };
+    names_in(parameters).map(told).map(String::from).collect()
 }
 
 /// What stands before a function's body.
@@ -154,18 +170,18 @@ fn clause(before: &str) -> Option<&str> {
         .find(|word| ["requires", "ensures"].contains(word))
 }
 
-/// Where the brace is closed that a text begins with.
-fn closing(text: &str) -> usize {
+/// Where the bracket is closed that a text begins with.
+pub(crate) fn closing(text: &str) -> usize {
     let mut depth = 0;
     for (at, c) in text.char_indices() {
         match c {
-            '{' => depth += 1,
-            '}' => depth -= 1,
+            '(' | '{' => depth += 1,
+            ')' | '}' => depth -= 1,
             _ => {}
         }
         if depth == 0 {
             return at;
         }
     }
-    panic!("a brace that isn't closed: {text}")
+    panic!("a bracket that isn't closed: {text}")
 }

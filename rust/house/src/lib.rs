@@ -13,6 +13,7 @@ mod lists;
 mod prover;
 mod refusals;
 mod trials;
+mod types;
 mod wrap;
 
 use std::fs;
@@ -21,6 +22,7 @@ use std::path::PathBuf;
 
 pub use contracts::cited;
 pub use contracts::contracts;
+pub use contracts::required;
 pub use crates::all;
 pub use crates::libraries;
 pub use crates::Crate;
@@ -39,6 +41,9 @@ pub use refusals::is_refused;
 pub use refusals::renamed;
 pub use refusals::with;
 pub use trials::tried;
+pub use types::shared;
+pub use types::types_of;
+pub use types::Type;
 pub use wrap::wrap;
 
 /// The widest line of a document.

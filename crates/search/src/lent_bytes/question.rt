@@ -10,6 +10,7 @@ use cells::block::{MvPair, RefPair};
 use cells::cell::Ref;
 use cells::pos::Pos4;
 use ground::read::size_at;
+use ground::twos::signed_byte;
 use vector::mv::Mv;
 
 pub const ASK: usize = 24;
@@ -19,8 +20,8 @@ fn refs_at(s: &[u8]) -> RefPair
     ensures { result ≡ refs_at s.now 0 }
 {
     RefPair {
-        first: Ref(s[0].cast_signed()),
-        second: Ref(s[1].cast_signed()),
+        first: Ref(signed_byte(s[0])),
+        second: Ref(signed_byte(s[1])),
     }
 }
 

@@ -12,6 +12,6 @@ pub returns : goal.returns
 unfolding put
 returns c =
     let r = c.args.refs in
-    let a = c.cast_unsigned.ensures ∙ ap bits8 (same w8 r.first.0 (search rules)) in
-    let b = c.cast_unsigned-2.ensures ∙ ap bits8 (same w8 r.second.0 (search rules)) in
+    let a = c.byte_bits.ensures ∙ ap bits8 (same w8 r.first.0 (search rules)) in
+    let b = c.byte_bits-2.ensures ∙ ap bits8 (same w8 r.second.0 (search rules)) in
     rw (a, b, add-one, add-two, add-three)

@@ -1,5 +1,4 @@
 -- `spatial::scan::weigh` meets its contract.
-use native.Mathlib.Omega.{arith}
 use borrow.Author.Tests.{eq-eqb, ne_eqb}
 use Rattle.spatial.specs.Scan.{weight_of}
 use Rattle.spatial.proofs.scan.weigh.Goals as goal
@@ -10,4 +9,4 @@ returns-then-p-eq1 c = rw (eq-eqb _ _ c.if-p-eq1.true)
 
 pub returns : goal.returns
 unfolding weight_of
-returns c = rw (ne_eqb _ _ c.if-p-eq1.false) (omega (arith, c.max.ensures, c.min.ensures))
+returns c = rw (ne_eqb _ _ c.if-p-eq1.false, ← c.least.ensures) c.most.ensures

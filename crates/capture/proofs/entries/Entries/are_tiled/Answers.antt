@@ -21,7 +21,7 @@ pub returns-then-offset-at : goal.returns-then-offset-at
 unfolding tiled
 returns-then-offset-at c =
     let l = c.loop-i in
-    sym (and-off _ (belows.one-fails _ _ l.i (omega (arith, c.loop-i-test.true, c.count-n.ensures)) (ne_eqb _ _ (λ e. c.if-offset-at.true (c.offset.ensures ∙ e ∙ sym l.invariant.0)))))
+    sym (and-off _ (belows.one-fails _ _ l.i (omega (arith, c.loop-i-test.true, c.count-n.ensures)) (ne_eqb _ _ (λ e. c.if-offset-at.true (c.offset.ensures.0 ∙ e ∙ sym l.invariant.0)))))
 
 pub overflow_add-at-in-loop-i : goal.overflow_add-at-in-loop-i
 overflow_add-at-in-loop-i c =
@@ -33,7 +33,7 @@ loop-i-preserved c =
     let f = c.args.self.now.file.now in (
       omega (arith, l.invariant.0, c.length-at.ensures.0, start-on f l.i),
       omega (arith, l.invariant.1, c.length-at.ensures.1),
-      belows.up (λ k. eqb (offset_at f k) (start_of f k)) l.i (belows.one_more _ l.i l.invariant.2 (eq-eqb _ _ (sym c.offset.ensures ∙ c.if-offset-at.false ∙ l.invariant.0))),
+      belows.up (λ k. eqb (offset_at f k) (start_of f k)) l.i (belows.one_more _ l.i l.invariant.2 (eq-eqb _ _ (sym c.offset.ensures.0 ∙ c.if-offset-at.false ∙ l.invariant.0))),
     )
 
 pub returns : goal.returns

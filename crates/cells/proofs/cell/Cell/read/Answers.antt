@@ -7,4 +7,4 @@ use Rattle.cells.proofs.cell.Cell.read.Goals as goal
 
 pub returns : goal.returns
 unfolding cell_at
-returns c = cell c.read.ensures (kept w8 c.cast_signed.type_inv c.cast_signed.ensures)
+returns c = cell c.read.ensures (kept w8 c.signed_byte.type_inv c.signed_byte.ensures)

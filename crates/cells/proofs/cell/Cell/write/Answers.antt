@@ -16,6 +16,6 @@ pub returns : goal.returns
 unfolding put
 returns c =
     let s = c.args in
-    let b = c.cast_unsigned.ensures ∙ ap bits8 (same w8 s.self.reference.0 (search rules)) in
+    let b = c.byte_bits.ensures ∙ ap bits8 (same w8 s.self.reference.0 (search rules)) in
     ap₂ (λ (l : List ℕ) (x : ℕ). set l (5 * s.i + 4) x) c.write.ensures b
     ∙ sym (put-append s.s.now (5 * s.i) (mv_bytes s.self.mv) (byte_of s.self.reference.0))

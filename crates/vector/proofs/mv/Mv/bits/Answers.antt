@@ -11,4 +11,4 @@ pub returns : goal.returns
 unfolding mv_bits
 returns c =
     let v = c.args.self in
-    rw (c.cast_unsigned.ensures ∙ ap bits16 (same w16 v.y (search rules)), c.cast_unsigned-2.ensures ∙ ap bits16 (same w16 v.x (search rules)))
+    rw (c.half_bits.ensures ∙ ap bits16 (same w16 v.y (search rules)), c.half_bits-2.ensures ∙ ap bits16 (same w16 v.x (search rules)))

@@ -7,4 +7,4 @@ use Rattle.vector.proofs.mv.Mv.of_bits.Goals as goal
 
 pub returns : goal.returns
 unfolding mv_of
-returns c = vector (kept w16 c.cast_signed-y.type_inv c.cast_signed-y.ensures) (kept w16 c.cast_signed-x.type_inv c.cast_signed-x.ensures)
+returns c = vector (kept w16 c.signed_half-y.type_inv c.signed_half-y.ensures) (kept w16 c.signed_half-x.type_inv c.signed_half-x.ensures)
