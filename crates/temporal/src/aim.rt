@@ -95,7 +95,7 @@ pub fn bits_of(c: Cell, a: Aim) -> u64
 fn is_apart(a: i16, b: i16) -> bool
     ensures { result ≡ apart a b }
 {
-    16 <= a.abs_diff(b)
+    16 <= magnitude(a.saturating_sub(b))
 }
 
 fn is_far(v: Mv, g: Mv) -> bool

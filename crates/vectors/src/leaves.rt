@@ -6,6 +6,7 @@ use crate::numbers::{byte, half, nth, word};
 use cells::block::Block;
 use cells::cell::{Cell, Ref};
 use cells::size::dimensions;
+use ground::sign::magnitude;
 use lines::print;
 use std::io;
 use vector::hint::get_poc_diff;
@@ -43,7 +44,7 @@ fn reference(rt: &impl Print, r: Ref) -> io::Result<()> {
 }
 
 fn projection(rt: &impl Print, v: Mv, num: i16, den: u32) -> io::Result<()> {
-    if v.within(4095) && num.unsigned_abs() <= 31 && 0 < den && den < 32 {
+    if v.within(4095) && magnitude(num) <= 31 && 0 < den && den < 32 {
         vector(rt, mv_projection(v, num, den))?;
     }
     Ok(())

@@ -1,4 +1,5 @@
 // The numbers of a line, each for what it is wanted as.
+use ground::twos::signed_half;
 
 // 0 where the line has fewer.
 pub(crate) fn nth(line: &[usize], i: usize) -> usize {
@@ -17,5 +18,5 @@ pub(crate) fn word(n: usize) -> u32 {
 
 // A negative number stands in a line modulo 2^64.
 pub(crate) fn half(n: usize) -> i16 {
-    ((n % 65536) as u16).cast_signed()
+    signed_half((n % 65536) as u16)
 }
